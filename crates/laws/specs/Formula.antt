@@ -1,0 +1,42 @@
+-- The word formula, of the calls: a transfer that nothing disturbs, from its start on.
+use Prim.Native.Nat.{ℕ, _<_, _≤_}
+use mathlib.Core.Path.{_≡_}
+use mathlib.Core.Bool.{Bool, true, false, cond}
+use lib.ListN.{length, getD}
+use Rattle.words.specs.Memory.{Memory, Place, bytesOf}
+use Rattle.sp.specs.Left.{transferWords}
+use Rattle.sp.specs.Formula.{Transfer, afterWords, ByteAfter}
+use Rattle.sp.specs.declared.SpState.{SpState}
+use Rattle.machine.specs.Calls.{writeRegister}
+use Rattle.machine.specs.Turns.{spTurn}
+use Rattle.laws.specs.World.{World, world, spTurned, spTurns}
+
+-- The transfer t has just started in w: k SP turns later the registers are those of the formula, every byte of all three memories is
+-- the one that the last word there brought or what it was, and nothing else has changed
+pub record Transferred (w : World) (t : Transfer) (k : ℕ) : Type 0 where
+  pub registers : spTurns k w .state .sp ≡ afterWords (w .state .sp) t k
+  pub dp : spTurns k w .state .dp ≡ w .state .dp
+  pub bytes : (p : Place) (x : ℕ) → x < length (bytesOf p (w .memory))
+      → ByteAfter t (w .memory) k p x (getD (bytesOf p (spTurns k w .memory)) x 0)
+  pub lengths : (p : Place) → length (bytesOf p (spTurns k w .memory)) ≡ length (bytesOf p (w .memory))
+  -- The turn that moves the next word succeeds with count 1
+  pub answer : k < transferWords (t .word)
+      → spTurn (spTurns k w .state) (spTurns k w .memory) .answer ≡ record { number = 0; value = 0; count = 1 }
+
+-- RDLEN loads, WRLEN stores
+abbrev pub lengthRegister : Bool → ℕ
+lengthRegister storing = cond storing 0x0404000C 0x04040008
+
+-- The transfer that starts from the latches with a length word and its direction
+abbrev pub latched : SpState → ℕ → Bool → Transfer
+latched s word storing = record { start = s .splatch; base = s .ramlatch; word = word; storing = storing }
+
+-- Of a sound state and lent memory of allowed lengths
+pub record WordFormula (w : World) : Type 0 where
+  -- A length word is written by its address to an idle engine
+  pub fromWrite : w .state .sp .busy ≡ false → (word : ℕ) (storing : Bool) (k : ℕ) → k ≤ transferWords word
+      → Transferred (world (writeRegister (w .state) (lengthRegister storing) word .state) (w .memory)) (latched (w .state .sp) word storing) k
+  -- A transfer waits while the running one moves its last word
+  pub fromWaiting : w .state .sp .busy ≡ true → w .state .sp .len ≡ 0 → w .state .sp .count ≡ 0 → w .state .sp .full ≡ true
+      → (k : ℕ) → k ≤ transferWords (w .state .sp .waiting)
+      → Transferred (spTurned w) (latched (w .state .sp) (w .state .sp .waiting) (w .state .sp .waitstoring)) k

@@ -1,0 +1,5 @@
+pub mod World
+pub mod Formula
+pub mod Waiting
+pub mod Order
+pub mod Runs

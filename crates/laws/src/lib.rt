@@ -1,0 +1,1 @@
+// Theorems over the machine's definitions: statements in specs/, proofs in proofs/.

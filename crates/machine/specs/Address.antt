@@ -1,0 +1,21 @@
+-- The register at an address.
+use Prim.Native.Nat.{ℕ, _+_, _/_, _%_}
+use mathlib.Core.Bool.{Bool, true, false, cond, _&&_}
+use lib.Dec.{ltb, leb, eqb}
+use Rattle.sp.specs.Registers.{spRegister}
+use Rattle.dp.specs.Registers.{dpRegister}
+use Rattle.machine.specs.declared.Register.{Register}
+use Rattle.machine.specs.declared.Register.the-variants.{Sp, Dp, Unmapped}
+
+-- One of the eight addresses from base upward by 4
+abbrev pub inBlock : ℕ → ℕ → Bool
+inBlock base a = leb base a && ltb a (base + 0x20) && eqb (a % 4) 0
+
+-- The register's place in its block, which begins at a multiple of 0x20
+abbrev pub registerIndex : ℕ → ℕ
+registerIndex a = a % 0x20 / 4
+
+unfoldable pub registerAt : ℕ → Register
+registerAt a =
+    cond (inBlock 0x04040000 a) (Sp (spRegister (registerIndex a)))
+    (cond (inBlock 0x04100000 a) (Dp (dpRegister (registerIndex a))) Unmapped)

@@ -1,0 +1,65 @@
+-- The numbers given back when a call is declined, each by the first check that fails.
+use Prim.Native.Nat.{ℕ, zero, suc, _%_}
+use mathlib.Core.Bool.{Bool, true, false, cond, _&&_}
+use mathlib.Core.List.{List}
+use lib.Dec.{leb, eqb}
+use lib.ListN.{length}
+use Rattle.words.specs.Memory.{Memory}
+use Rattle.machine.specs.declared.State.{State}
+use Rattle.machine.specs.declared.Outcome.{Outcome}
+use Rattle.machine.specs.declared.Register.{Register}
+use Rattle.machine.specs.declared.Register.the-variants.{Sp, Dp, Unmapped}
+use Rattle.machine.specs.Sound.{sound}
+use Rattle.machine.specs.Address.{registerAt}
+
+-- The number n where a check fails, else what the later checks give
+abbrev pub check : Bool → ℕ → ℕ → ℕ
+check ok n later = cond ok later n
+
+-- A multiple of 8 from 0 to 16,777,216
+abbrev pub rdramAllowed : ℕ → Bool
+rdramAllowed n = eqb (n % 8) 0 && leb n 16777216
+
+abbrev pub bankAllowed : ℕ → Bool
+bankAllowed n = eqb n 4096
+
+abbrev pub isRegister : Register → Bool
+isRegister (Sp r) = true
+isRegister (Dp r) = true
+isRegister Unmapped = false
+
+-- Of a call that takes the state alone
+unfoldable pub stateRefusal : State → ℕ
+stateRefusal s = check (sound s) 4 0
+
+-- Of a register access
+unfoldable pub accessRefusal : State → ℕ → ℕ
+accessRefusal s a = check (sound s) 4 (check (isRegister (registerAt a)) 5 0)
+
+-- Of a call that takes RDRAM, DMEM and IMEM
+unfoldable pub spRefusal : State → Memory → ℕ
+spRefusal s m =
+    check (rdramAllowed (length (m .rdram))) 1
+    (check (bankAllowed (length (m .dmem))) 2
+    (check (bankAllowed (length (m .imem))) 3
+    (check (sound s) 4 0)))
+
+-- Of a call that takes RDRAM and DMEM
+unfoldable pub dpRefusal : State → List ℕ → List ℕ → ℕ
+dpRefusal s rdram dmem =
+    check (rdramAllowed (length rdram)) 1
+    (check (bankAllowed (length dmem)) 2
+    (check (sound s) 4 0))
+
+-- A call that succeeds: the next state, a value and a count
+abbrev pub accepted : State → ℕ → ℕ → Outcome
+accepted s value count = record { state = s; answer = record { number = 0; value = value; count = count } }
+
+-- A declined call: value 0, count 0 and the state as handed in
+abbrev pub declined : State → ℕ → Outcome
+declined s number = record { state = s; answer = record { number = number; value = 0; count = 0 } }
+
+-- What a call gives: the outcome where no check fails, else declined
+abbrev pub unless : {A : Type 0} → ℕ → A → A → A
+unless zero refused done = done
+unless (suc n) refused done = refused

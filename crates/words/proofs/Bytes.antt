@@ -1,0 +1,118 @@
+-- The bytes of a stored and of a loaded word.
+use Prim.Native.Nat.{ℕ, zero, suc, _+_, _-_, _%_, _<_, _≤_}
+use mathlib.Core.Path.{_≡_, refl, sym, ap, _∙_}
+use mathlib.Core.Bool.{Bool, true, false, cond}
+use mathlib.Core.List.{List, [], _∷_}
+use native.Mathlib.Omega.{arith}
+use native.Mathlib.Nat.{add-zero}
+use lib.Dec.{leb, eqb}
+use lib.ListN.{length, getD, set, length-set, replicate, List·getD-eq-default, getD-replicate}
+use lib.Seq.{sets, getD-set-same, getD-set-other, length-sets}
+use borrow.Author.Tests.{leb-true, leb-false, eqb-true, eqb-false, le-leb}
+use Rattle.words.specs.Memory.{Memory, Place, RDRAM, DMEM, IMEM, bytesOf, withBytes, fitted, bytesAt, loadWord, storeWord}
+use Rattle.words.proofs.Tests.{by, either}
+
+-- ---- A byte after several are set
+
+sets-below : (bs l : List ℕ) (a x : ℕ) → x < a → getD (sets l a bs) x 0 ≡ getD l x 0
+sets-below [] l a x h = refl
+sets-below (b ∷ bs) l a x h = sets-below bs (set l a b) (suc a) x (omega arith) ∙ getD-set-other l a x b 0 (omega arith)
+
+pub sets-outside : (bs l : List ℕ) (a x : ℕ) → (a ≤ x → x < a + length bs → ⊥) → getD (sets l a bs) x 0 ≡ getD l x 0
+sets-outside [] l a x h = refl
+sets-outside (b ∷ bs) l a x h =
+    sets-outside bs (set l a b) (suc a) x (λ p q. h (omega arith) (omega arith))
+    ∙ getD-set-other l a x b 0 (λ e. h (omega arith) (omega arith))
+
+pub sets-inside : (bs l : List ℕ) (a i : ℕ) → i < length bs → a + length bs ≤ length l → getD (sets l a bs) (a + i) 0 ≡ getD bs i 0
+sets-inside [] l a i h k = absurd (omega arith)
+sets-inside (b ∷ bs) l a zero h k =
+    ap (λ (x : ℕ). getD (sets (set l a b) (suc a) bs) x 0) (add-zero a)
+    ∙ sets-below bs (set l a b) (suc a) a (omega arith)
+    ∙ getD-set-same l a b 0 (omega arith)
+sets-inside (b ∷ bs) l a (suc i) h k =
+    let e : a + suc i ≡ suc a + i = omega arith in
+    rw e (sets-inside bs (set l a b) (suc a) i (omega arith) (omega (arith, length-set l a b)))
+
+-- ---- Words
+
+pub bytes-length : (l : List ℕ) (a : ℕ) → length (bytesAt l a) ≡ 8
+unfolding bytesAt
+bytes-length l a = refl
+
+pub load-length : (l : List ℕ) (a : ℕ) → length (loadWord l a) ≡ 8
+unfolding loadWord
+load-length l a = either (λ (w : List ℕ). length w ≡ 8) (fitted l a) (bytesAt l a) (replicate 8 0) (λ _. bytes-length l a) (λ _. refl)
+
+bytes-at : (l : List ℕ) (a i : ℕ) → i < 8 → getD (bytesAt l a) i 0 ≡ getD l (a + i) 0
+unfolding bytesAt
+bytes-at l a zero h = rw add-zero
+bytes-at l a (suc zero) h = refl
+bytes-at l a (suc (suc zero)) h = refl
+bytes-at l a (suc (suc (suc zero))) h = refl
+bytes-at l a (suc (suc (suc (suc zero)))) h = refl
+bytes-at l a (suc (suc (suc (suc (suc zero))))) h = refl
+bytes-at l a (suc (suc (suc (suc (suc (suc zero)))))) h = refl
+bytes-at l a (suc (suc (suc (suc (suc (suc (suc zero))))))) h = refl
+bytes-at l a (suc (suc (suc (suc (suc (suc (suc (suc i)))))))) h = absurd (omega arith)
+
+-- A byte of a loaded word is the lent byte, or zero past the lent length. Both are multiples of 8, so no word is fitted in part
+pub load-byte : (l : List ℕ) (a i : ℕ) → length l % 8 ≡ 0 → a % 8 ≡ 0 → i < 8 → getD (loadWord l a) i 0 ≡ getD l (a + i) 0
+unfolding loadWord
+load-byte l a i el ea h =
+    either (λ (w : List ℕ). getD w i 0 ≡ getD l (a + i) 0) (fitted l a) (bytesAt l a) (replicate 8 0)
+    (λ _. bytes-at l a i h)
+    (λ f.
+    let out : length l ≤ a + i = past (length l) a i el ea (leb-false (a + 8) (length l) f) in
+    getD-replicate 8 i 0 0 h ∙ sym (List·getD-eq-default l 0 out))
+  where
+    past : (n a i : ℕ) → n % 8 ≡ 0 → a % 8 ≡ 0 → n < a + 8 → n ≤ a + i
+    past n a i p q r = omega arith
+
+pub store-length : (l : List ℕ) (a : ℕ) (w : List ℕ) → length (storeWord l a w) ≡ length l
+unfolding storeWord
+store-length l a w = either (λ (k : List ℕ). length k ≡ length l) (fitted l a) (sets l a w) l (λ _. length-sets l a w) (λ _. refl)
+
+-- A store changes no byte outside its word
+pub store-outside : (l : List ℕ) (a : ℕ) (w : List ℕ) (x : ℕ) → length w ≡ 8 → (a ≤ x → x < a + 8 → x < length l → ⊥)
+    → getD (storeWord l a w) x 0 ≡ getD l x 0
+unfolding storeWord
+store-outside l a w x e h =
+    either (λ (k : List ℕ). getD k x 0 ≡ getD l x 0) (fitted l a) (sets l a w) l
+    (λ f.
+    let room : a + 8 ≤ length l = leb-true (a + 8) (length l) f in
+    sets-outside w l a x (λ p q. h p (omega arith) (omega arith)))
+    (λ _. refl)
+
+-- A stored byte
+pub store-inside : (l : List ℕ) (a : ℕ) (w : List ℕ) (i : ℕ) → length w ≡ 8 → i < 8 → a + 8 ≤ length l
+    → getD (storeWord l a w) (a + i) 0 ≡ getD w i 0
+unfolding storeWord
+store-inside l a w i e h room = rw (le-leb (a + 8) (length l) room) (sets-inside w l a i (omega arith) (omega arith))
+
+-- ---- Places
+
+pub with-same : (p : Place) (l : List ℕ) (m : Memory) → bytesOf p (withBytes p l m) ≡ l
+with-same RDRAM l m = refl
+with-same DMEM l m = refl
+with-same IMEM l m = refl
+
+-- Other places keep their bytes: what holds of the place written and of the bytes that were there holds of any place
+pub with-place : (P : Place → List ℕ → Type 0) (q : Place) (l : List ℕ) (m : Memory) → P q l → ((p : Place) → P p (bytesOf p m))
+    → (p : Place) → P p (bytesOf p (withBytes q l m))
+with-place P RDRAM l m h k RDRAM = h
+with-place P RDRAM l m h k DMEM = k DMEM
+with-place P RDRAM l m h k IMEM = k IMEM
+with-place P DMEM l m h k RDRAM = k RDRAM
+with-place P DMEM l m h k DMEM = h
+with-place P DMEM l m h k IMEM = k IMEM
+with-place P IMEM l m h k RDRAM = k RDRAM
+with-place P IMEM l m h k DMEM = k DMEM
+with-place P IMEM l m h k IMEM = h
+
+-- Storing a word in a place keeps every length
+pub stored-length : (q : Place) (a : ℕ) (w : List ℕ) (m : Memory) (p : Place)
+    → length (bytesOf p (withBytes q (storeWord (bytesOf q m) a w) m)) ≡ length (bytesOf p m)
+stored-length q a w m p =
+    with-place (λ (r : Place) (l : List ℕ). length l ≡ length (bytesOf r m)) q (storeWord (bytesOf q m) a w) m
+    (store-length (bytesOf q m) a w) (λ r. refl) p
