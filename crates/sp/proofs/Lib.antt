@@ -1,0 +1,4 @@
+pub mod Turn
+pub mod Sound
+pub mod Kept
+pub mod Left
