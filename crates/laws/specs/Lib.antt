@@ -1,4 +1,5 @@
 pub mod World
+pub mod Left
 pub mod Formula
 pub mod Waiting
 pub mod Order

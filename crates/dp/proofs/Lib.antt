@@ -1,0 +1,5 @@
+pub mod Sound
+pub mod Cases
+pub mod Kept
+pub mod Listed
+pub mod Registers
