@@ -5,3 +5,5 @@ pub mod Calls
 pub mod Turns
 pub mod Runs
 pub mod Look
+pub mod Kept
+pub mod Broken

@@ -1,0 +1,4 @@
+pub mod Sound
+pub mod Kept
+pub mod Broken
+pub mod Refusals

@@ -1,0 +1,229 @@
+-- Each number of a declined call is given exactly in its case, a declined call changes nothing, and which addresses are registers.
+use Prim.Native.Nat.{ℕ, zero, suc, _+_, _*_, _%_, _<_, _≤_}
+use mathlib.Core.Path.{_≡_, refl, sym, ap, _∙_}
+use mathlib.Core.Bool.{Bool, true, false, not, _&&_}
+use mathlib.Core.Logic.{_↔_}
+use mathlib.Core.List.{List, [], _∷_, map, List·Memᴰ, List·Memᴰ·head, List·Memᴰ·tail, Memᴰ·append-left, Memᴰ·append-right, Memᴰ·map, Memᴰ·eq-of-replicate}
+use native.Mathlib.Omega.{arith}
+use lib.Dec.{ltb, leb, eqb}
+use lib.ListN.{length}
+use borrow.Author.Tests.{ltb-true, leb-true, eqb-true, eqb-false, ne-eqb}
+use Rattle.words.specs.Memory.{Memory}
+use Rattle.words.proofs.Tests.{by, contradiction, and-true, three}
+use Rattle.sp.specs.declared.SpRegister.the-variants as SpReg
+use Rattle.dp.specs.declared.DpRegister.the-variants as DpReg
+use Rattle.machine.specs.declared.State.{State}
+use Rattle.machine.specs.declared.Outcome.{Outcome}
+use Rattle.machine.specs.declared.Register.{Register}
+use Rattle.machine.specs.declared.Register.the-variants.{Sp, Dp, Unmapped}
+use Rattle.machine.specs.Sound.{sound}
+use Rattle.machine.specs.Address.{inBlock, registerAt}
+use Rattle.machine.specs.Refusals.{check, rdramAllowed, bankAllowed, isRegister, stateRefusal, accessRefusal, spRefusal, dpRefusal, declined, unless}
+use Rattle.machine.specs.Calls.{readAt, writeAt, readRegister, writeRegister, tick, break, acknowledge}
+use Rattle.machine.specs.Turns.{spTurn, spTurnMemory, dpTurn}
+use Rattle.machine.specs.Runs.{spRun, spRunMemory, dpRun, dpRunOutput}
+use Rattle.machine.specs.Look.{look, empty}
+
+-- ---- The numbers
+
+-- The number n is that of the first check that fails, in the order of paper 01, and 0 if none does. An input that a call does not take
+-- counts as good
+pub record Given (n : ℕ) (rdram dmem imem state register : Bool) : Type 0 where
+  pub rdramNumber : eqb n 1 ≡ not rdram
+  pub dmemNumber : eqb n 2 ≡ rdram && not dmem
+  pub imemNumber : eqb n 3 ≡ rdram && dmem && not imem
+  pub stateNumber : eqb n 4 ≡ rdram && dmem && imem && not state
+  pub registerNumber : eqb n 5 ≡ rdram && dmem && imem && state && not register
+  pub success : eqb n 0 ≡ rdram && dmem && imem && state && register
+
+first-fails : (a b c d e : Bool) → Given (check a 1 (check b 2 (check c 3 (check d 4 (check e 5 0))))) a b c d e
+first-fails false b c d e = search
+first-fails true false c d e = search
+first-fails true true false d e = search
+first-fails true true true false e = search
+first-fails true true true true false = search
+first-fails true true true true true = search
+
+-- Of a call that takes the state alone
+pub state-number : (s : State) → Given (stateRefusal s) true true true (sound s) true
+unfolding stateRefusal
+state-number s = first-fails true true true (sound s) true
+
+-- Of a register access
+pub access-number : (s : State) (a : ℕ) → Given (accessRefusal s a) true true true (sound s) (isRegister (registerAt a))
+unfolding accessRefusal
+access-number s a = first-fails true true true (sound s) (isRegister (registerAt a))
+
+-- Of an SP turn or run
+pub sp-number : (s : State) (m : Memory)
+    → Given (spRefusal s m) (rdramAllowed (length (m .rdram))) (bankAllowed (length (m .dmem))) (bankAllowed (length (m .imem))) (sound s) true
+unfolding spRefusal
+sp-number s m =
+    first-fails (rdramAllowed (length (m .rdram))) (bankAllowed (length (m .dmem))) (bankAllowed (length (m .imem))) (sound s) true
+
+-- Of a DP turn or run, and of a look
+pub dp-number : (s : State) (rdram dmem : List ℕ)
+    → Given (dpRefusal s rdram dmem) (rdramAllowed (length rdram)) (bankAllowed (length dmem)) true (sound s) true
+unfolding dpRefusal
+dp-number s rdram dmem = first-fails (rdramAllowed (length rdram)) (bankAllowed (length dmem)) true (sound s) true
+
+-- ---- What a call gives, by the number of its checks
+
+-- It answers that number. If the number is not 0, the value is 0, the count is 0 and the state is as handed in
+pub record Answers (n : ℕ) (s : State) (o : Outcome) : Type 0 where
+  pub number : o .answer .number ≡ n
+  pub refused : (k : ℕ) → n ≡ suc k → o ≡ declined s n
+
+answers : (n : ℕ) (s : State) (done : Outcome) → (n ≡ 0 → done .answer .number ≡ 0) → Answers n s (unless n (declined s n) done)
+answers zero s done h = record { number = h refl; refused = λ k e. absurd (omega arith) }
+answers (suc n) s done h = record { number = refl; refused = λ k e. refl }
+
+read-succeeds : (r : Register) (s : State) → isRegister r ≡ true → readAt r s .answer .number ≡ 0
+read-succeeds (Sp r) s e = refl
+read-succeeds (Dp r) s e = refl
+read-succeeds Unmapped s e = contradiction e refl
+
+write-succeeds : (r : Register) (s : State) (v : ℕ) → isRegister r ≡ true → writeAt r s v .answer .number ≡ 0
+write-succeeds (Sp r) s v e = refl
+write-succeeds (Dp r) s v e = refl
+write-succeeds Unmapped s v e = contradiction e refl
+
+-- An access that passes its checks is to a register
+mapped : (s : State) (a : ℕ) → accessRefusal s a ≡ 0 → isRegister (registerAt a) ≡ true
+mapped s a e = and-true (sound s) (isRegister (registerAt a)) (sym (access-number s a .success) ∙ ap (λ (n : ℕ). eqb n 0) e) .1
+
+pub read-answers : (s : State) (a : ℕ) → Answers (accessRefusal s a) s (readRegister s a)
+unfolding readRegister
+read-answers s a = answers (accessRefusal s a) s (readAt (registerAt a) s) (λ e. read-succeeds (registerAt a) s (mapped s a e))
+
+pub write-answers : (s : State) (a v : ℕ) → Answers (accessRefusal s a) s (writeRegister s a v)
+unfolding writeRegister
+write-answers s a v =
+    answers (accessRefusal s a) s (writeAt (registerAt a) s v) (λ e. write-succeeds (registerAt a) s v (mapped s a e))
+
+pub tick-answers : (s : State) (n : ℕ) → Answers (stateRefusal s) s (tick s n)
+unfolding tick
+tick-answers s n = answers (stateRefusal s) s _ (λ _. refl)
+
+pub break-answers : (s : State) → Answers (stateRefusal s) s (break s)
+unfolding break
+break-answers s = answers (stateRefusal s) s _ (λ _. refl)
+
+pub acknowledge-answers : (s : State) → Answers (stateRefusal s) s (acknowledge s)
+unfolding acknowledge
+acknowledge-answers s = answers (stateRefusal s) s _ (λ _. refl)
+
+pub sp-turn-answers : (s : State) (m : Memory) → Answers (spRefusal s m) s (spTurn s m)
+unfolding spTurn
+sp-turn-answers s m = answers (spRefusal s m) s _ (λ _. refl)
+
+pub dp-turn-answers : (s : State) (rdram dmem : List ℕ) → Answers (dpRefusal s rdram dmem) s (dpTurn s rdram dmem)
+unfolding dpTurn
+dp-turn-answers s rdram dmem = answers (dpRefusal s rdram dmem) s _ (λ _. refl)
+
+pub sp-run-answers : (s : State) (budget : ℕ) (m : Memory) → Answers (spRefusal s m) s (spRun s budget m)
+unfolding spRun
+sp-run-answers s budget m = answers (spRefusal s m) s _ (λ _. refl)
+
+pub dp-run-answers : (s : State) (budget : ℕ) (rdram dmem out : List ℕ) → Answers (dpRefusal s rdram dmem) s (dpRun s budget rdram dmem out)
+unfolding dpRun
+dp-run-answers s budget rdram dmem out = answers (dpRefusal s rdram dmem) s _ (λ _. refl)
+
+-- A declined SP call leaves the lent memory as it was, a declined DP run its output, and a declined look shows nothing
+pub sp-turn-memory : (s : State) (m : Memory) (k : ℕ) → spRefusal s m ≡ suc k → spTurnMemory s m ≡ m
+unfolding spTurnMemory
+sp-turn-memory s m k e = rw e
+
+pub sp-run-memory : (s : State) (budget : ℕ) (m : Memory) (k : ℕ) → spRefusal s m ≡ suc k → spRunMemory s budget m ≡ m
+unfolding spRunMemory
+sp-run-memory s budget m k e = rw e
+
+pub dp-run-output : (s : State) (budget : ℕ) (rdram dmem out : List ℕ) (k : ℕ) → dpRefusal s rdram dmem ≡ suc k
+    → dpRunOutput s budget rdram dmem out ≡ out
+unfolding dpRunOutput
+dp-run-output s budget rdram dmem out k e = rw e
+
+pub look-empty : (s : State) (rdram dmem : List ℕ) (k : ℕ) → dpRefusal s rdram dmem ≡ suc k → look s rdram dmem ≡ empty
+unfolding look
+look-empty s rdram dmem k e = rw (e, ne-eqb (suc k) 0 (λ z. absurd (omega arith)))
+
+-- ---- The sixteen addresses
+
+abbrev pub addresses : List ℕ
+addresses =
+    0x04040000
+    ∷ 0x04040004
+    ∷ 0x04040008
+    ∷ 0x0404000C
+    ∷ 0x04040010
+    ∷ 0x04040014
+    ∷ 0x04040018
+    ∷ 0x0404001C
+    ∷ 0x04100000
+    ∷ 0x04100004
+    ∷ 0x04100008
+    ∷ 0x0410000C
+    ∷ 0x04100010
+    ∷ 0x04100014
+    ∷ 0x04100018
+    ∷ 0x0410001C
+    ∷ []
+
+-- Their registers, in the order of paper 01
+pub registers : map registerAt addresses
+    ≡ Sp SpReg.SpAddr
+    ∷ Sp SpReg.RamAddr
+    ∷ Sp SpReg.RdLen
+    ∷ Sp SpReg.WrLen
+    ∷ Sp SpReg.Status
+    ∷ Sp SpReg.DmaFull
+    ∷ Sp SpReg.DmaBusy
+    ∷ Sp SpReg.Semaphore
+    ∷ Dp DpReg.Start
+    ∷ Dp DpReg.End
+    ∷ Dp DpReg.Current
+    ∷ Dp DpReg.Status
+    ∷ Dp DpReg.Clock
+    ∷ Dp DpReg.CmdBusy
+    ∷ Dp DpReg.PipeBusy
+    ∷ Dp DpReg.TmemBusy
+    ∷ []
+unfolding registerAt
+registers = refl
+
+pub past-semaphore : registerAt 0x04040020 ≡ Unmapped
+unfolding registerAt
+past-semaphore = refl
+
+-- n addresses from base upward by 4
+abbrev upward : ℕ → ℕ → List ℕ
+upward base zero = []
+upward base (suc n) = base ∷ upward (base + 4) n
+
+among : (n base a : ℕ) → base ≤ a → a < base + 4 * n → a % 4 ≡ base % 4 → List·Memᴰ a (upward base n)
+among zero base a p q r = absurd (omega arith)
+among (suc n) base a p q r =
+    by (eqb a base) (λ e. List·Memᴰ·head (eqb-true a base e))
+    (λ e.
+    let other : a ≡ base → ⊥ = eqb-false a base e in
+    List·Memᴰ·tail (among n (base + 4) a (omega arith) (omega arith) (omega arith)))
+
+in-block : (base a : ℕ) → base % 4 ≡ 0 → inBlock base a ≡ true → List·Memᴰ a (upward base 8)
+in-block base a z e =
+    let p = three (leb base a) (ltb a (base + 0x20)) (eqb (a % 4) 0) e in
+    among 8 base a (leb-true base a (p .0)) (ltb-true a (base + 0x20) (p .1)) (eqb-true (a % 4) 0 (p .2) ∙ sym z)
+
+-- An address is a register exactly if it is one of these
+pub sixteen : (a : ℕ) → (isRegister (registerAt a) ≡ true) ↔ List·Memᴰ a addresses
+unfolding registerAt
+sixteen a = (one-of, is-register)
+  where
+    one-of : isRegister (registerAt a) ≡ true → List·Memᴰ a addresses
+    one-of e =
+        by (inBlock 0x04040000 a) (λ p. Memᴰ·append-left (upward 0x04100000 8) (in-block 0x04040000 a refl p))
+        (λ p.
+        by (inBlock 0x04100000 a) (λ q. Memᴰ·append-right (upward 0x04040000 8) (in-block 0x04100000 a refl q))
+        (λ q. contradiction e (rw (p, q))))
+
+    is-register : List·Memᴰ a addresses → isRegister (registerAt a) ≡ true
+    is-register h = Memᴰ·eq-of-replicate 16 (Memᴰ·map (λ (x : ℕ). isRegister (registerAt x)) h)
