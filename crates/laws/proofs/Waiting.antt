@@ -1,4 +1,4 @@
--- A waiting transfer begins once, over any trace of calls, and a trace begins no more transfers than length words were written.
+-- A waiting transfer begins once, over any trace, and a trace begins no more transfers than length words were written.
 use Prim.Native.Nat.{ℕ, zero, suc, _+_, _*_, _/_, _%_, _<_, _≤_}
 use mathlib.Core.Path.{_≡_, refl, sym, ap, _∙_}
 use mathlib.Core.Bool.{Bool, true, false, not, cond, _&&_, _||_, or-true, or-false, or-assoc}
@@ -26,13 +26,14 @@ use Rattle.machine.specs.declared.Outcome.{Outcome}
 use Rattle.machine.specs.declared.Register.{Register}
 use Rattle.machine.specs.declared.Register.the-variants.{Sp, Dp, Unmapped}
 use Rattle.machine.specs.Sound.{sound}
-use Rattle.machine.specs.Address.{registerAt}
+use Rattle.machine.specs.Address.{registerAt, addresses}
 use Rattle.machine.specs.Refusals.{check, isRegister, accessRefusal, stateRefusal, spRefusal, dpRefusal, declined, unless}
 use Rattle.machine.specs.Calls.{readAt, writeAt, readRegister, writeRegister, tick, break, acknowledge}
 use Rattle.machine.specs.Turns.{spTurn, dpTurn}
 use Rattle.machine.proofs.Sound.{facts}
 use Rattle.machine.proofs.Kept.{either-way, read-kept, write-kept, tick-kept, break-kept, acknowledge-kept, sp-turn-kept, dp-turn-kept}
-use Rattle.machine.proofs.Refusals.{addresses, sixteen, sp-turn-answers}
+use Rattle.machine.proofs.Address.{sixteen}
+use Rattle.machine.proofs.Refusals.{sp-turn-answers}
 use Rattle.laws.specs.Waiting.{Event, reads, writes, ticks, breaks, acknowledges, spTurns, dpTurns, leaves, leavesAll, Written, noted, note, lastWritten, writtenBefore, isLength, lengthWrites, writesLength, isMove, moves, begins, begun, Starts, Before, BeginsOnce}
 
 -- ---- What a write does, by the register at its address

@@ -1,4 +1,5 @@
--- A waiting transfer begins once: what that means over any trace of calls.
+-- A waiting transfer begins once: what that means over any trace of register accesses, ticks, BREAKs, acknowledges and turns,
+-- declined ones included.
 use Prim.Native.Nat.{ℕ, suc, _+_, _<_}
 use mathlib.Core.Path.{_≡_}
 use mathlib.Core.Bool.{Bool, true, false, not, cond, _&&_, _||_}

@@ -1,4 +1,5 @@
 pub mod Sound
 pub mod Kept
 pub mod Broken
+pub mod Address
 pub mod Refusals

@@ -1,40 +1,27 @@
--- Each number of a declined call is given exactly in its case, a declined call changes nothing, and which addresses are registers.
-use Prim.Native.Nat.{ℕ, zero, suc, _+_, _*_, _%_, _<_, _≤_}
+-- Each number of a declined call is given exactly in its case, and a declined call changes nothing.
+use Prim.Native.Nat.{ℕ, zero, suc}
 use mathlib.Core.Path.{_≡_, refl, sym, ap, _∙_}
 use mathlib.Core.Bool.{Bool, true, false, not, _&&_}
-use mathlib.Core.Logic.{_↔_}
-use mathlib.Core.List.{List, [], _∷_, map, List·Memᴰ, List·Memᴰ·head, List·Memᴰ·tail, Memᴰ·append-left, Memᴰ·append-right, Memᴰ·map, Memᴰ·eq-of-replicate}
+use mathlib.Core.List.{List}
 use native.Mathlib.Omega.{arith}
-use lib.Dec.{ltb, leb, eqb}
+use lib.Dec.{eqb}
 use lib.ListN.{length}
-use borrow.Author.Tests.{ltb-true, leb-true, eqb-true, eqb-false, ne-eqb}
+use borrow.Author.Tests.{ne-eqb}
 use Rattle.words.specs.Memory.{Memory}
-use Rattle.words.proofs.Tests.{by, contradiction, and-true, three}
-use Rattle.sp.specs.declared.SpRegister.the-variants as SpReg
-use Rattle.dp.specs.declared.DpRegister.the-variants as DpReg
+use Rattle.words.proofs.Tests.{contradiction, and-true}
 use Rattle.machine.specs.declared.State.{State}
 use Rattle.machine.specs.declared.Outcome.{Outcome}
 use Rattle.machine.specs.declared.Register.{Register}
 use Rattle.machine.specs.declared.Register.the-variants.{Sp, Dp, Unmapped}
 use Rattle.machine.specs.Sound.{sound}
-use Rattle.machine.specs.Address.{inBlock, registerAt}
-use Rattle.machine.specs.Refusals.{check, rdramAllowed, bankAllowed, isRegister, stateRefusal, accessRefusal, spRefusal, dpRefusal, declined, unless}
+use Rattle.machine.specs.Address.{registerAt}
+use Rattle.machine.specs.Refusals.{check, rdramAllowed, bankAllowed, isRegister, stateRefusal, accessRefusal, spRefusal, dpRefusal, declined, unless, Given, Answers}
 use Rattle.machine.specs.Calls.{readAt, writeAt, readRegister, writeRegister, tick, break, acknowledge}
 use Rattle.machine.specs.Turns.{spTurn, spTurnMemory, dpTurn}
 use Rattle.machine.specs.Runs.{spRun, spRunMemory, dpRun, dpRunOutput}
 use Rattle.machine.specs.Look.{look, empty}
 
 -- ---- The numbers
-
--- The number n is that of the first check that fails, in the order of paper 01, and 0 if none does. An input that a call does not take
--- counts as good
-pub record Given (n : ℕ) (rdram dmem imem state register : Bool) : Type 0 where
-  pub rdramNumber : eqb n 1 ≡ not rdram
-  pub dmemNumber : eqb n 2 ≡ rdram && not dmem
-  pub imemNumber : eqb n 3 ≡ rdram && dmem && not imem
-  pub stateNumber : eqb n 4 ≡ rdram && dmem && imem && not state
-  pub registerNumber : eqb n 5 ≡ rdram && dmem && imem && state && not register
-  pub success : eqb n 0 ≡ rdram && dmem && imem && state && register
 
 first-fails : (a b c d e : Bool) → Given (check a 1 (check b 2 (check c 3 (check d 4 (check e 5 0))))) a b c d e
 first-fails false b c d e = search
@@ -68,11 +55,6 @@ unfolding dpRefusal
 dp-number s rdram dmem = first-fails (rdramAllowed (length rdram)) (bankAllowed (length dmem)) true (sound s) true
 
 -- ---- What a call gives, by the number of its checks
-
--- It answers that number. If the number is not 0, the value is 0, the count is 0 and the state is as handed in
-pub record Answers (n : ℕ) (s : State) (o : Outcome) : Type 0 where
-  pub number : o .answer .number ≡ n
-  pub refused : (k : ℕ) → n ≡ suc k → o ≡ declined s n
 
 answers : (n : ℕ) (s : State) (done : Outcome) → (n ≡ 0 → done .answer .number ≡ 0) → Answers n s (unless n (declined s n) done)
 answers zero s done h = record { number = h refl; refused = λ k e. absurd (omega arith) }
@@ -146,84 +128,3 @@ dp-run-output s budget rdram dmem out k e = rw e
 pub look-empty : (s : State) (rdram dmem : List ℕ) (k : ℕ) → dpRefusal s rdram dmem ≡ suc k → look s rdram dmem ≡ empty
 unfolding look
 look-empty s rdram dmem k e = rw (e, ne-eqb (suc k) 0 (λ z. absurd (omega arith)))
-
--- ---- The sixteen addresses
-
-abbrev pub addresses : List ℕ
-addresses =
-    0x04040000
-    ∷ 0x04040004
-    ∷ 0x04040008
-    ∷ 0x0404000C
-    ∷ 0x04040010
-    ∷ 0x04040014
-    ∷ 0x04040018
-    ∷ 0x0404001C
-    ∷ 0x04100000
-    ∷ 0x04100004
-    ∷ 0x04100008
-    ∷ 0x0410000C
-    ∷ 0x04100010
-    ∷ 0x04100014
-    ∷ 0x04100018
-    ∷ 0x0410001C
-    ∷ []
-
--- Their registers, in the order of paper 01
-pub registers : map registerAt addresses
-    ≡ Sp SpReg.SpAddr
-    ∷ Sp SpReg.RamAddr
-    ∷ Sp SpReg.RdLen
-    ∷ Sp SpReg.WrLen
-    ∷ Sp SpReg.Status
-    ∷ Sp SpReg.DmaFull
-    ∷ Sp SpReg.DmaBusy
-    ∷ Sp SpReg.Semaphore
-    ∷ Dp DpReg.Start
-    ∷ Dp DpReg.End
-    ∷ Dp DpReg.Current
-    ∷ Dp DpReg.Status
-    ∷ Dp DpReg.Clock
-    ∷ Dp DpReg.CmdBusy
-    ∷ Dp DpReg.PipeBusy
-    ∷ Dp DpReg.TmemBusy
-    ∷ []
-unfolding registerAt
-registers = refl
-
-pub past-semaphore : registerAt 0x04040020 ≡ Unmapped
-unfolding registerAt
-past-semaphore = refl
-
--- n addresses from base upward by 4
-abbrev upward : ℕ → ℕ → List ℕ
-upward base zero = []
-upward base (suc n) = base ∷ upward (base + 4) n
-
-among : (n base a : ℕ) → base ≤ a → a < base + 4 * n → a % 4 ≡ base % 4 → List·Memᴰ a (upward base n)
-among zero base a p q r = absurd (omega arith)
-among (suc n) base a p q r =
-    by (eqb a base) (λ e. List·Memᴰ·head (eqb-true a base e))
-    (λ e.
-    let other : a ≡ base → ⊥ = eqb-false a base e in
-    List·Memᴰ·tail (among n (base + 4) a (omega arith) (omega arith) (omega arith)))
-
-in-block : (base a : ℕ) → base % 4 ≡ 0 → inBlock base a ≡ true → List·Memᴰ a (upward base 8)
-in-block base a z e =
-    let p = three (leb base a) (ltb a (base + 0x20)) (eqb (a % 4) 0) e in
-    among 8 base a (leb-true base a (p .0)) (ltb-true a (base + 0x20) (p .1)) (eqb-true (a % 4) 0 (p .2) ∙ sym z)
-
--- An address is a register exactly if it is one of these
-pub sixteen : (a : ℕ) → (isRegister (registerAt a) ≡ true) ↔ List·Memᴰ a addresses
-unfolding registerAt
-sixteen a = (one-of, is-register)
-  where
-    one-of : isRegister (registerAt a) ≡ true → List·Memᴰ a addresses
-    one-of e =
-        by (inBlock 0x04040000 a) (λ p. Memᴰ·append-left (upward 0x04100000 8) (in-block 0x04040000 a refl p))
-        (λ p.
-        by (inBlock 0x04100000 a) (λ q. Memᴰ·append-right (upward 0x04040000 8) (in-block 0x04100000 a refl q))
-        (λ q. contradiction e (rw (p, q))))
-
-    is-register : List·Memᴰ a addresses → isRegister (registerAt a) ≡ true
-    is-register h = Memᴰ·eq-of-replicate 16 (Memᴰ·map (λ (x : ℕ). isRegister (registerAt x)) h)

@@ -1,6 +1,7 @@
 -- The register at an address.
 use Prim.Native.Nat.{ℕ, _+_, _/_, _%_}
 use mathlib.Core.Bool.{Bool, true, false, cond, _&&_}
+use mathlib.Core.List.{List, [], _∷_}
 use lib.Dec.{ltb, leb, eqb}
 use Rattle.sp.specs.Registers.{spRegister}
 use Rattle.dp.specs.Registers.{dpRegister}
@@ -19,3 +20,24 @@ unfoldable pub registerAt : ℕ → Register
 registerAt a =
     cond (inBlock 0x04040000 a) (Sp (spRegister (registerIndex a)))
     (cond (inBlock 0x04100000 a) (Dp (dpRegister (registerIndex a))) Unmapped)
+
+-- The sixteen register addresses, one by one
+abbrev pub addresses : List ℕ
+addresses =
+    0x04040000
+    ∷ 0x04040004
+    ∷ 0x04040008
+    ∷ 0x0404000C
+    ∷ 0x04040010
+    ∷ 0x04040014
+    ∷ 0x04040018
+    ∷ 0x0404001C
+    ∷ 0x04100000
+    ∷ 0x04100004
+    ∷ 0x04100008
+    ∷ 0x0410000C
+    ∷ 0x04100010
+    ∷ 0x04100014
+    ∷ 0x04100018
+    ∷ 0x0410001C
+    ∷ []

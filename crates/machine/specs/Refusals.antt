@@ -1,6 +1,7 @@
 -- The numbers given back when a call is declined, each by the first check that fails.
 use Prim.Native.Nat.{ℕ, zero, suc, _%_}
-use mathlib.Core.Bool.{Bool, true, false, cond, _&&_}
+use mathlib.Core.Path.{_≡_}
+use mathlib.Core.Bool.{Bool, true, false, not, cond, _&&_}
 use mathlib.Core.List.{List}
 use lib.Dec.{leb, eqb}
 use lib.ListN.{length}
@@ -63,3 +64,20 @@ declined s number = record { state = s; answer = record { number = number; value
 abbrev pub unless : {A : Type 0} → ℕ → A → A → A
 unless zero refused done = done
 unless (suc n) refused done = refused
+
+-- ---- What is proved of the numbers and of declined calls
+
+-- The number n is that of the first check that fails, in the order of paper 01, and 0 if none does. An input that a call does not take
+-- counts as good
+pub record Given (n : ℕ) (rdram dmem imem state register : Bool) : Type 0 where
+  pub rdramNumber : eqb n 1 ≡ not rdram
+  pub dmemNumber : eqb n 2 ≡ rdram && not dmem
+  pub imemNumber : eqb n 3 ≡ rdram && dmem && not imem
+  pub stateNumber : eqb n 4 ≡ rdram && dmem && imem && not state
+  pub registerNumber : eqb n 5 ≡ rdram && dmem && imem && state && not register
+  pub success : eqb n 0 ≡ rdram && dmem && imem && state && register
+
+-- It answers that number. If the number is not 0, the value is 0, the count is 0 and the state is as handed in
+pub record Answers (n : ℕ) (s : State) (o : Outcome) : Type 0 where
+  pub number : o .answer .number ≡ n
+  pub refused : (k : ℕ) → n ≡ suc k → o ≡ declined s n
