@@ -87,7 +87,7 @@ semaphore-kept s semaphore h = record { fits = omega arith; multiples = omega ar
 
 -- ---- Turns
 
-started-kept : (s : SpState) (word : ℕ) (storing : Bool) → SpSound s → SpSound (started s word storing)
+pub started-kept : (s : SpState) (word : ℕ) (storing : Bool) → SpSound s → SpSound (started s word storing)
 unfolding started
 started-kept s word storing h =
     transfer-kept s (s .splatch) (s .ramlatch) (lenOf word) (countOf word) (skipOf word) (lenOf word) true storing false (omega arith)

@@ -1,0 +1,3 @@
+pub mod After
+pub mod Quick
+pub mod Marked
