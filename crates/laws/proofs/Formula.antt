@@ -13,7 +13,7 @@ use Rattle.sp.specs.Sound.{SpSound}
 use Rattle.sp.specs.Transfer.{started, lengthWritten}
 use Rattle.sp.specs.Turn.{spNext, spMove, spAfter, memoryAfter}
 use Rattle.sp.specs.Left.{transferWords}
-use Rattle.sp.specs.Formula.{beforeWord}
+use Rattle.sp.specs.Formula.{latched, beforeWord}
 use Rattle.sp.proofs.Turn.{memory-length}
 use Rattle.sp.proofs.Kept.{started-kept}
 use Rattle.sp.proofs.Formula.{formula, before-word}
@@ -24,7 +24,7 @@ use Rattle.machine.specs.Refusals.{rdramAllowed, bankAllowed, accessRefusal}
 use Rattle.machine.specs.Address.{registerAt}
 use Rattle.machine.specs.Calls.{writeRegister}
 use Rattle.laws.specs.World.{World, world, spLengths, spTurns}
-use Rattle.laws.specs.Formula.{Transferred, lengthRegister, latched, WordFormula}
+use Rattle.laws.specs.Formula.{Transferred, lengthRegister, WordFormula}
 use Rattle.laws.proofs.Turns.{sp-sound, with-sp-sound, sound-after, lengths-next, lengths-after, turn-is, turned-is, turns-are}
 
 -- Allowed lengths are multiples of 8

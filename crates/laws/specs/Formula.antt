@@ -5,8 +5,7 @@ use mathlib.Core.Bool.{Bool, true, false, cond}
 use lib.ListN.{length, getD}
 use Rattle.words.specs.Memory.{Memory, Place, bytesOf}
 use Rattle.sp.specs.Left.{transferWords}
-use Rattle.sp.specs.Formula.{Transfer, afterWords, ByteAfter}
-use Rattle.sp.specs.declared.SpState.{SpState}
+use Rattle.sp.specs.Formula.{Transfer, latched, afterWords, ByteAfter}
 use Rattle.machine.specs.Calls.{writeRegister}
 use Rattle.machine.specs.Turns.{spTurn}
 use Rattle.laws.specs.World.{World, world, spTurned, spTurns}
@@ -26,10 +25,6 @@ pub record Transferred (w : World) (t : Transfer) (k : ℕ) : Type 0 where
 -- RDLEN loads, WRLEN stores
 abbrev pub lengthRegister : Bool → ℕ
 lengthRegister storing = cond storing 0x0404000C 0x04040008
-
--- The transfer that starts from the latches with a length word and its direction
-abbrev pub latched : SpState → ℕ → Bool → Transfer
-latched s word storing = record { start = s .splatch; base = s .ramlatch; word = word; storing = storing }
 
 -- Of a sound state and lent memory of allowed lengths
 pub record WordFormula (w : World) : Type 0 where

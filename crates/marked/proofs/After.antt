@@ -17,9 +17,9 @@ use Rattle.sp.specs.Transfer.{lenOf, countOf, skipOf, started}
 use Rattle.sp.specs.Registers.{lengthRead}
 use Rattle.sp.specs.Turn.{spNext, spMove, spAfter, memoryAfter}
 use Rattle.sp.specs.Left.{transferWords, wordsLeft}
-use Rattle.sp.specs.Formula.{afterWords}
+use Rattle.sp.specs.Formula.{latched, afterWords}
 use Rattle.sp.proofs.Left.{left-idle, left-busy}
-use Rattle.sp.proofs.Formula.{latched, formula}
+use Rattle.sp.proofs.Formula.{formula}
 use Rattle.machine.specs.declared.State.{State}
 use Rattle.machine.specs.Sound.{withSp, sound}
 use Rattle.laws.specs.World.{spLengths}
