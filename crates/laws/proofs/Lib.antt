@@ -1,3 +1,4 @@
 pub mod Turns
+pub mod Left
 pub mod Formula
 pub mod Waiting
