@@ -2,3 +2,10 @@ pub mod Turns
 pub mod Left
 pub mod Formula
 pub mod Waiting
+pub mod Answers
+pub mod Apart
+pub mod Along
+pub mod Order
+pub mod Calls
+pub mod Runs
+pub mod Witness

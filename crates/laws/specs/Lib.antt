@@ -4,3 +4,4 @@ pub mod Formula
 pub mod Waiting
 pub mod Order
 pub mod Runs
+pub mod Witness
