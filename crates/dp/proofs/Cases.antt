@@ -4,11 +4,11 @@ use mathlib.Core.Path.{_≡_, refl}
 use mathlib.Core.Bool.{Bool, true, false, not, cond, _&&_, _||_}
 use mathlib.Core.List.{List}
 use native.Mathlib.Omega.{arith}
-use native.Mathlib.Nat.{mod-eq-of-lt}
+use native.Mathlib.Nat.{mod-eq-of-lt, not-le-of-lt}
 use lib.Dec.{ltb}
 use borrow.Author.Tests.{not-true, ltb-true, ltb-false}
 use Rattle.words.specs.Bits.{ramAdd}
-use Rattle.words.proofs.Tests.{either, and-true, contradiction}
+use Rattle.words.proofs.Tests.{by, either, and-true, contradiction}
 use Rattle.dp.specs.declared.DpState.{DpState}
 use Rattle.dp.specs.Sound.{DpSound}
 use Rattle.dp.specs.Lists.{runs, listStarted, limitMoved, withEnd, endWritten, waitingStarted}
@@ -87,3 +87,7 @@ status-cases P s v f g h =
     none : (a b : Bool) → not a && false && b ≡ false
     none true b = refl
     none false b = refl
+
+-- A list that runs on a sound state is not flushed
+pub flush-off : (s : DpState) → DpSound s → s .current < s .limit → s .flush ≡ false
+flush-off s h r = by (s .flush) (λ p. absurd (not-le-of-lt r (h .flushed p))) (λ p. p)

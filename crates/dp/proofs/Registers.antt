@@ -17,15 +17,11 @@ use Rattle.dp.specs.Sound.{DpSound}
 use Rattle.dp.specs.Lists.{runs, listStarted, limitMoved, startWritten}
 use Rattle.dp.specs.Registers.{commandBusy, dpRead, modesWritten, flushed, setsFlush, dpWrite, dpTick, dpAcknowledge}
 use Rattle.dp.specs.Turn.{fetches, listWord, nextListWord, opcode, commandLength, syncFull, framed, advanced, fetched, dpNext}
-use Rattle.dp.proofs.Cases.{follows, fetched-cases, next-address, list-follows, none-follows, end-cases, status-cases}
+use Rattle.dp.proofs.Cases.{flush-off, follows, fetched-cases, next-address, list-follows, none-follows, end-cases, status-cases}
 use Rattle.dp.proofs.Listed.{next-fetched}
 
 list-runs : (s : DpState) → fetches s ≡ true → s .current < s .limit
 list-runs s e = ltb-true (s .current) (s .limit) (and-true (runs s) (not (s .freeze)) e .0)
-
--- A list that runs on a sound state is not flushed
-flush-off : (s : DpState) → DpSound s → s .current < s .limit → s .flush ≡ false
-flush-off s h r = by (s .flush) (λ p. absurd (not-le-of-lt r (h .flushed p))) (λ p. p)
 
 -- ---- START and END read back as last written
 

@@ -15,13 +15,15 @@ use Rattle.dp.specs.Sound.{DpSound}
 use Rattle.dp.specs.Lists.{runs}
 use Rattle.dp.specs.Turn.{fetches, listWord, nextListWord, fetched, dpStep}
 use Rattle.dp.specs.Listed.{toFetch}
+use Rattle.dp.proofs.Cases.{flush-off}
 use Rattle.dp.proofs.Kept.{fetched-kept}
 use Rattle.dp.proofs.Listed.{next-fetched, next-still, fetched-modes, same-list-word, fetch-next}
 use Rattle.machine.specs.declared.State.{State}
 use Rattle.machine.specs.Sound.{withDp, Sound}
+use Rattle.machine.proofs.Sound.{facts}
 use Rattle.laws.specs.World.{World, world}
 use Rattle.laws.specs.Order.{Turn, sp, dp, spWrong, dpWrong, leaves, Outset}
-use Rattle.laws.proofs.Answers.{state-facts, spNumber, dpNumber, by-number, sp-alike, dp-alike, spDone, dpAnswer, sp-leaves, dp-leaves, sp-stays, dp-stays, sp-wrong-stays, dp-wrong-stays}
+use Rattle.laws.proofs.Answers.{spNumber, dpNumber, by-number, sp-alike, dp-alike, spDone, dpAnswer, sp-leaves, dp-leaves, sp-stays, dp-stays, sp-wrong-stays, dp-wrong-stays}
 use Rattle.laws.proofs.Apart.{Apart, word-kept, apart-moved, apart-fetched}
 
 -- The world w after some turns from the outset o. Turns over its own memory have the numbers ns and nd
@@ -38,7 +40,7 @@ pub record Along (o : World) (ns nd : ℕ) (w : World) : Type 0 where
 
 pub at-outset : (w : World) → Outset w → Along w (spNumber w) (dpNumber w) w
 at-outset w o =
-    let h = state-facts (w .state) (o .isSound) in
+    let h = facts (w .state) (o .isSound) in
     record {
       spRefused = refl;
       dpRefused = refl;
@@ -56,13 +58,6 @@ fetch-on s z r = true-and (runs s) (not (s .freeze)) r (rw z)
 
 pub fetch-off : (s : DpState) → runs s ≡ false → fetches s ≡ false
 fetch-off s r = ap (λ (b : Bool). b && not (s .freeze)) r
-
--- While a list runs, FLUSH is off
-pub flush-off : (s : DpState) → DpSound s → s .current < s .limit → s .flush ≡ false
-flush-off s h r = by (s .flush) (λ f. absurd (not-both (s .current) (s .limit) r (h .flushed f))) (λ f. f)
-  where
-    not-both : (a b : ℕ) → a < b → b ≤ a → ⊥
-    not-both a b p q = omega arith
 
 -- The registers after a DP turn over the memory m, and what such a turn leaves
 abbrev pub stepOver : Memory → DpState → DpState

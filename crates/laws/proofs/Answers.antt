@@ -7,33 +7,18 @@ use native.Mathlib.Omega.{arith}
 use lib.ListN.{length}
 use Rattle.words.specs.Bits.{asBit}
 use Rattle.words.specs.Memory.{Memory, Place, RDRAM, DMEM, IMEM, bytesOf, wordValue}
-use Rattle.words.proofs.Tests.{and-true, true-and, contradiction}
-use Rattle.sp.specs.Sound.{spSound}
+use Rattle.words.proofs.Tests.{contradiction}
 use Rattle.sp.specs.Turn.{spNext, spMove}
-use Rattle.sp.proofs.Sound.{sp-facts, sp-test}
 use Rattle.dp.specs.declared.DpState.{DpState}
-use Rattle.dp.specs.Sound.{dpSound}
 use Rattle.dp.specs.Turn.{fetches, nextListWord, dpStep}
-use Rattle.dp.proofs.Sound.{dp-facts, dp-test}
 use Rattle.machine.specs.declared.State.{State}
 use Rattle.machine.specs.declared.Answer.{Answer}
 use Rattle.machine.specs.Sound.{withSp, withDp, sound, Sound}
 use Rattle.machine.specs.Refusals.{check, rdramAllowed, bankAllowed, spRefusal, dpRefusal}
 use Rattle.machine.specs.Turns.{spTurn, spTurnMemory, dpTurn}
+use Rattle.machine.proofs.Sound.{facts, test}
 use Rattle.laws.specs.World.{World, world, spLengths, dpLengths}
 use Rattle.laws.specs.Order.{sp, dp, spWrong, dpWrong, outcome, leaves, gives, declines}
-
--- ---- The test of soundness and its facts
-
-pub state-facts : (s : State) → sound s ≡ true → Sound s
-unfolding sound
-state-facts s e =
-    let h = and-true (spSound (s .sp)) (dpSound (s .dp)) e in
-    record { sp = sp-facts (s .sp) (h .0); dp = dp-facts (s .dp) (h .1) }
-
-pub state-test : (s : State) → Sound s → sound s ≡ true
-unfolding sound
-state-test s h = true-and (spSound (s .sp)) (dpSound (s .dp)) (sp-test (s .sp) (h .sp)) (dp-test (s .dp) (h .dp))
 
 -- ---- Numbers
 
@@ -53,19 +38,19 @@ by-number (suc n) f g = g n refl
 pub sp-alike : (s t : State) (m n : Memory) → Sound s → Sound t → ((p : Place) → length (bytesOf p m) ≡ length (bytesOf p n))
     → spRefusal s m ≡ spRefusal t n
 unfolding spRefusal
-sp-alike s t m n h k l = rw (l RDRAM, l DMEM, l IMEM, state-test s h, state-test t k)
+sp-alike s t m n h k l = rw (l RDRAM, l DMEM, l IMEM, test s h, test t k)
 
 pub dp-alike : (s t : State) (rdram dmem rdram′ dmem′ : List ℕ) → Sound s → Sound t → length rdram ≡ length rdram′
     → length dmem ≡ length dmem′
     → dpRefusal s rdram dmem ≡ dpRefusal t rdram′ dmem′
 unfolding dpRefusal
-dp-alike s t rdram dmem rdram′ dmem′ h k p q = rw (p, q, state-test s h, state-test t k)
+dp-alike s t rdram dmem rdram′ dmem′ h k p q = rw (p, q, test s h, test t k)
 
 -- Number 0 is given of sound states alone
 pub sp-sound : (s : State) (m : Memory) → spRefusal s m ≡ 0 → Sound s
 unfolding spRefusal
 sp-sound s m e =
-    state-facts s (last (rdramAllowed (length (m .rdram))) (bankAllowed (length (m .dmem))) (bankAllowed (length (m .imem))) (sound s) e)
+    facts s (last (rdramAllowed (length (m .rdram))) (bankAllowed (length (m .dmem))) (bankAllowed (length (m .imem))) (sound s) e)
   where
     last : (a b c d : Bool) → check a 1 (check b 2 (check c 3 (check d 4 0))) ≡ 0 → d ≡ true
     last true true true true e = refl
@@ -76,7 +61,7 @@ sp-sound s m e =
 
 pub dp-sound : (s : State) (rdram dmem : List ℕ) → dpRefusal s rdram dmem ≡ 0 → Sound s
 unfolding dpRefusal
-dp-sound s rdram dmem e = state-facts s (last (rdramAllowed (length rdram)) (bankAllowed (length dmem)) (sound s) e)
+dp-sound s rdram dmem e = facts s (last (rdramAllowed (length rdram)) (bankAllowed (length dmem)) (sound s) e)
   where
     last : (a b d : Bool) → check a 1 (check b 2 (check d 4 0)) ≡ 0 → d ≡ true
     last true true true e = refl

@@ -30,7 +30,7 @@ words-left w h l =
     record {
       busyAfter = λ k. rw (turns-are k w h l) (busy-left k (w .state .sp) (sp-sound (w .state) h));
       runLeaves = λ n.
-        rw (run-is (w .state) n (w .memory) h l, run-memory-is (w .state) n (w .memory) h l)
-        (sym (turns-are (min n (wordsLeft (w .state .sp))) w h l));
+          rw (run-is (w .state) n (w .memory) h l, run-memory-is (w .state) n (w .memory) h l)
+          (sym (turns-are (min n (wordsLeft (w .state .sp))) w h l));
       runAnswer = λ n. rw (run-is (w .state) n (w .memory) h l);
     }

@@ -23,13 +23,14 @@ use Rattle.dp.specs.Sound.{DpSound}
 use Rattle.dp.specs.Lists.{runs}
 use Rattle.dp.specs.Turn.{nextListWord, dpAfter}
 use Rattle.dp.specs.Listed.{listedWords}
+use Rattle.dp.proofs.Cases.{flush-off}
 use Rattle.dp.proofs.Listed.{next-fetched, next-still, words-next, words-none}
 use Rattle.machine.specs.declared.State.{State}
 use Rattle.machine.specs.Refusals.{spRefusal, dpRefusal}
 use Rattle.laws.specs.World.{World, world}
 use Rattle.laws.specs.Order.{Engine, SP, DP, Turn, sp, dp, spWrong, dpWrong, outcome, leaves, leavesAll, turnsOf, answersOf, spFirst, gives, declines, spGives, spRest, dpGives, dpRest, spExpected, dpExpected, accepted, fetchedWords, Outset, listed, Demand3, Declined}
 use Rattle.laws.proofs.Answers.{spNumber, dpNumber, by-number, sp-alike, dp-alike, sp-wrong, dp-wrong, spDone, dpAnswer, sp-leaves, sp-answers, dp-answers, sp-stays, sp-declines, dp-stays, dp-declines, sp-wrong-stays, sp-wrong-declines, sp-wrong-slices, dp-wrong-stays, dp-wrong-declines, cons}
-use Rattle.laws.proofs.Along.{Along, at-outset, fetch-on, fetch-off, flush-off, stepOver, fetchedOver, along-sp, along-dp, same-answer, dp-leaves-over}
+use Rattle.laws.proofs.Along.{Along, at-outset, fetch-on, fetch-off, stepOver, fetchedOver, along-sp, along-dp, same-answer, dp-leaves-over}
 
 -- ---- An accepted turn's answer, and what is left after it
 
