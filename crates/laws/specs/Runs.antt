@@ -12,7 +12,7 @@ use Rattle.machine.specs.declared.Outcome.{Outcome}
 use Rattle.machine.specs.Refusals.{spRefusal, dpRefusal}
 use Rattle.machine.specs.Runs.{spRun, spRunMemory, dpRun, dpRunOutput, dpRunTaken}
 use Rattle.laws.specs.World.{World, world, spLengths, dpLengths}
-use Rattle.laws.specs.Order.{Engine, SP, DP, Turn, sp, dp, spWrong, dpWrong, outcome, leaves, leavesAll, answersOf, gives, fetchedWords}
+use Rattle.laws.specs.Order.{Engine, SP, DP, Turn, sp, dp, spWrong, dpWrong, outcome, leaves, leavesAll, fetchedWords, Demand3}
 
 -- A turn, or a run: over the memory that the last call left, or over slices of wrong lengths
 pub data Call : Type 0 where
@@ -143,8 +143,9 @@ pub record DpRunIsTurns (b : ℕ) (out : List ℕ) (w : World) : Type 0 where
 
 -- A series of turns and runs
 pub record Demand3Calls (w : World) (cs : List Call) : Type 0 where
-  -- It leaves what the turns leave that its calls take, of which Demand3 speaks
+  -- It leaves what the turns leave that its calls take, and demand 3 holds of these
   pub asTurns : callsLeave cs w ≡ leavesAll (allTurnsTaken cs w) w
+  pub ofTurns : Demand3 w (allTurnsTaken cs w)
   -- State and memory are those of the SP's calls first
   pub sameEnd : callsLeave cs w ≡ callsLeave (spCallsFirst cs) w
   -- The k-th call of an engine gives the same number, value, count and output, declined calls included

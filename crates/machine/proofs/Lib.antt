@@ -3,3 +3,4 @@ pub mod Kept
 pub mod Broken
 pub mod Address
 pub mod Refusals
+pub mod Look
