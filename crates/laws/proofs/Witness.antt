@@ -2,11 +2,12 @@
 -- refute the claim.
 use Prim.Native.Nat.{ℕ, zero, suc, _+_, _<_, _≤_}
 use mathlib.Core.Path.{_≡_, refl, ap}
+use mathlib.Core.Bool.{true}
 use mathlib.Core.Logic.{_⊎_, inl, inr}
 use mathlib.Core.List.{List, [], _∷_, List·Memᴰ, List·Memᴰ·head, List·Memᴰ·cases-cons, List·Memᴰ·eq-of-singleton}
 use native.Mathlib.Omega.{arith}
 use Rattle.words.specs.Memory.{loadWord, bytesAt, storeWord, wordValue}
-use Rattle.sp.specs.Transfer.{started, lengthWritten, nextWord, ended}
+use Rattle.sp.specs.Transfer.{started, lengthWritten, nextWord, nextRow, ended}
 use Rattle.sp.specs.Sound.{spSound}
 use Rattle.sp.specs.Turn.{targetAddress, spNext, spAfter, spMove}
 use Rattle.sp.specs.Left.{wordsLeft, runningWords, transferWords}
@@ -16,14 +17,16 @@ use Rattle.dp.specs.Lists.{startWritten, endWritten, listStarted, limitMoved, w
 use Rattle.dp.specs.Registers.{dpStatusWritten, modesWritten, flushed}
 use Rattle.dp.specs.Listed.{toFetch, span}
 use Rattle.machine.specs.Sound.{sound}
-use Rattle.machine.specs.Calls.{writeRegister}
-use Rattle.machine.specs.Refusals.{accessRefusal, spRefusal, dpRefusal}
+use Rattle.machine.specs.Calls.{readRegister, writeRegister, tick, break}
+use Rattle.machine.specs.Refusals.{stateRefusal, accessRefusal, spRefusal, dpRefusal}
 use Rattle.machine.specs.Turns.{spTurn, spTurnMemory, dpTurn}
 use Rattle.machine.specs.declared.Answer.{Answer}
 use Rattle.machine.specs.Address.{registerAt}
 use Rattle.laws.specs.World.{World}
+use Rattle.laws.specs.Waiting.{Before, Starts, moves, lastWritten, writesLength, leavesAll as eventsLeave}
 use Rattle.laws.specs.Order.{DP, sp, dp, leavesAll, turnsOf, answersOf, Outset, Demand3}
-use Rattle.laws.specs.Witness.{written, bothBusy, BothWait, rdramClash, dmemClash, OneWordHit}
+use Rattle.laws.proofs.Waiting.{begins-once}
+use Rattle.laws.specs.Witness.{written, bothBusy, BothWait, rdramClash, dmemClash, OneWordHit, lent, loading, storeWaits}
 
 -- Each of these three names the definitions that a proof opens to compute: register writes with the test of soundness, ...
 Writes : Type 0
@@ -122,3 +125,15 @@ dmem-hit = record {
 pub dmem-needed : Demand3 dmemClash (dp ∷ sp ∷ []) → ⊥
 unfolding dmemClash first-value Writes Turns
 dmem-needed = differs dmemClash refl refl
+
+-- ---- The premise of `begins-once` can be met
+
+pub waits-once : Before loading storeWaits lent
+unfolding loading storeWaits Writes Counts Turns nextRow eventsLeave moves readRegister tick break stateRefusal
+waits-once = record { isSound = refl; busy = refl; lastWord = refl; taken = refl }
+
+-- The store then begins with what the trace wrote last
+pub store-begins : Starts (record { splatch = 0x1008; ramlatch = 0x20; word = 0x17; storing = true })
+    (spTurn (eventsLeave storeWaits loading) lent .state .sp)
+unfolding storeWaits lastWritten writesLength loading Writes
+store-begins = begins-once loading storeWaits lent waits-once .starts refl

@@ -4,8 +4,9 @@ use Prim.Native.Nat.{ℕ, _+_, _<_, _≤_}
 use mathlib.Core.Path.{_≡_}
 use mathlib.Core.Bool.{true, false}
 use mathlib.Core.List.{List, [], _∷_, List·Memᴰ}
+use native.Mathlib.Omega.{arith}
 use lib.ListN.{replicate}
-use Rattle.words.specs.Memory.{Place, memory}
+use Rattle.words.specs.Memory.{Memory, Place, memory}
 use Rattle.dp.specs.Lists.{runs}
 use Rattle.dp.specs.Turn.{listAddress}
 use Rattle.dp.specs.Listed.{toFetch}
@@ -13,6 +14,7 @@ use Rattle.machine.specs.declared.State.{State}
 use Rattle.machine.specs.Sound.{powerUp, sound}
 use Rattle.machine.specs.Calls.{writeRegister}
 use Rattle.laws.specs.World.{World, world}
+use Rattle.laws.specs.Waiting.{Event, reads, writes, ticks, breaks, spTurns}
 use Rattle.laws.specs.Order.{ToWrite, ToRead, listPlace}
 
 -- A register's address and the value written there
@@ -85,3 +87,28 @@ pub record OneWordHit (w : World) : Type 0 where
       → ToWrite (w .state .sp) (w .memory) (listPlace (w .state .dp)) x
   pub onlyHit : (p : Place) (x : ℕ) → ToWrite (w .state .sp) (w .memory) p x → ToRead (w .state .dp) p x
       → (listAddress (w .state .dp) word ≤ x) × (x < listAddress (w .state .dp) word + 8)
+
+-- ---- A transfer waits
+
+-- A load of two rows of two words runs
+unfoldable pub loading : State
+loading = written (write 0x04040008 0x100F ∷ []) powerUp
+
+abbrev pub lent : Memory
+lent = memory (zeros 64) (zeros 4096) (zeros 4096)
+
+-- Both latches and a store are written while it moves all its words but the last; a turn over no DMEM is declined, a tick, a BREAK and a read
+-- come between
+unfoldable pub storeWaits : List Event
+storeWaits =
+    writes 0x04040000 0x1008 (omega arith)
+    ∷ spTurns lent
+    ∷ writes 0x0404000C 0x17 (omega arith)
+    ∷ spTurns (memory (zeros 64) [] (zeros 4096))
+    ∷ spTurns lent
+    ∷ ticks 5
+    ∷ writes 0x04040004 0x20 (omega arith)
+    ∷ breaks
+    ∷ reads 0x04040018
+    ∷ spTurns lent
+    ∷ []

@@ -45,16 +45,16 @@ module _ (s : State) (rdram dmem : List ℕ) where
   looked =
       record {
         word = λ a e.
-          by shows
-          (λ t. let same : at ≡ a = cc (sym (some t) ∙ e) in (sym same, rw (← same) (turn t)))
-          (λ f. let z : _≡_ {A = ℕ} 0 1 = cc (sym (none f) ∙ e) in absurd (omega arith));
+            by shows
+            (λ t. let same : at ≡ a = cc (sym (some t) ∙ e) in (sym same, rw (← same) (turn t)))
+            (λ f. let z : _≡_ {A = ℕ} 0 1 = cc (sym (none f) ∙ e) in absurd (omega arith));
         nothing = λ z.
-          by shows (λ t. let c : 1 ≡ 0 = sym (ap (λ (a : Answer). a .count) (turn t)) ∙ z in absurd (omega arith)) none;
+            by shows (λ t. let c : 1 ≡ 0 = sym (ap (λ (a : Answer). a .count) (turn t)) ∙ z in absurd (omega arith)) none;
         unfitted = λ u.
-          by shows
-          (λ t.
+            by shows
+            (λ t.
             let p = and-true (eqb (dpRefusal s rdram dmem) 0) (shown (s .dp) rdram dmem) t in
             let q = and-true (fetches (s .dp)) (fitted (listBytes (s .dp) rdram dmem) (listAddress (s .dp) (s .dp .current))) (p .1) in
             contradiction (q .1) u)
-          none;
+            none;
       }
