@@ -91,16 +91,16 @@ started-kept s g =
 length-bound : (op : ℕ) → commandLength op ≤ 22
 unfolding commandLength
 length-bound op =
-    most (eqb op 0x08) 4 _ (omega arith)
-    (most (eqb op 0x09) 6 _ (omega arith)
-    (most (eqb op 0x0A) 12 _ (omega arith)
-    (most (eqb op 0x0B) 14 _ (omega arith)
-    (most (eqb op 0x0C) 12 _ (omega arith)
-    (most (eqb op 0x0D) 14 _ (omega arith)
-    (most (eqb op 0x0E) 20 _ (omega arith)
-    (most (eqb op 0x0F) 22 _ (omega arith)
-    (most (eqb op 0x24) 2 _ (omega arith)
-    (most (eqb op 0x25) 2 1 (omega arith) (omega arith))))))))))
+    most (eqb op 0x08) _ _ (omega arith)
+    (most (eqb op 0x09) _ _ (omega arith)
+    (most (eqb op 0x0A) _ _ (omega arith)
+    (most (eqb op 0x0B) _ _ (omega arith)
+    (most (eqb op 0x0C) _ _ (omega arith)
+    (most (eqb op 0x0D) _ _ (omega arith)
+    (most (eqb op 0x0E) _ _ (omega arith)
+    (most (eqb op 0x0F) _ _ (omega arith)
+    (most (eqb op 0x24) _ _ (omega arith)
+    (most (eqb op 0x25) _ _ (omega arith) (omega arith))))))))))
   where
     most : (b : Bool) (x y : ℕ) → x ≤ 22 → y ≤ 22 → cond b x y ≤ 22
     most b x y p q = either (λ (n : ℕ). n ≤ 22) b x y (λ _. p) (λ _. q)
@@ -131,7 +131,7 @@ fetched-kept s w h r =
 pub dp-next-kept : (s : DpState) (w : List ℕ) → DpSound s → DpSound (dpNext s w)
 unfolding dpNext
 dp-next-kept s w h =
-    either DpSound (fetches s) (fetched s w) s (λ e. fetched-kept s w h (and-true (runs s) (not (s .freeze)) e .0)) (λ _. h)
+    either DpSound (fetches s) (fetched s w) s (λ e. fetched-kept s w h (and-true (runs s) _ e .0)) (λ _. h)
 
 pub dp-after-kept : (n : ℕ) (s : DpState) (rdram dmem : List ℕ) → DpSound s → DpSound (dpAfter n s rdram dmem)
 unfolding dpAfter

@@ -3,3 +3,5 @@ pub mod Cases
 pub mod Kept
 pub mod Listed
 pub mod Registers
+pub mod Lengths
+pub mod Unchanged

@@ -1,19 +1,19 @@
 -- A turn takes the first of the words yet to fetch, and many turns take them one after another.
 use Prim.Native.Nat.{ℕ, zero, suc, _+_, _-_, _*_, _/_, _%_, _<_, _≤_, min}
 use mathlib.Core.Path.{_≡_, refl, ap, _∙_}
-use mathlib.Core.Bool.{Bool, true, false, not, cond, _&&_}
+use mathlib.Core.Bool.{Bool, true, false, cond}
 use mathlib.Core.List.{List, [], _∷_, _++_, append-nil, append-assoc, map}
 use native.Mathlib.Omega.{arith}
 use native.Mathlib.Nat.{zero-add, suc-add, min-zero, zero-min, suc-min-suc, not-le-of-lt}
 use lib.ListN.{length, length-append}
 use borrow.Author.Tests.{ltb-true, ltb-false}
 use Rattle.words.specs.Memory.{wordValue}
-use Rattle.words.proofs.Tests.{by, true-and}
+use Rattle.words.proofs.Tests.{by}
 use Rattle.words.proofs.Bytes.{load-length}
 use Rattle.dp.specs.declared.DpState.{DpState}
 use Rattle.dp.specs.Sound.{DpSound}
 use Rattle.dp.specs.Lists.{runs, listStarted}
-use Rattle.dp.specs.Turn.{fetches, listBytes, listAddress, listWord, nextListWord, framed, advanced, fetched, dpNext, dpStep, dpAfter, handedOut, dpTaken}
+use Rattle.dp.specs.Turn.{fetches, listBytes, listAddress, listWord, nextListWord, framed, advanced, fetched, dpNext, dpStep, dpAfter, handedOut, dpTaken, roomFor}
 use Rattle.dp.specs.Listed.{span, toFetch, listedWords}
 use Rattle.dp.proofs.Cases.{fetched-cases, next-address, list-follows}
 use Rattle.dp.proofs.Kept.{fetched-kept}
@@ -136,6 +136,15 @@ pub taken-none : (b : ℕ) (s : DpState) (rdram dmem : List ℕ) → fetches s �
 unfolding dpTaken
 taken-none b s rdram dmem e = ap (λ (t : Bool). cond t (suc (dpTaken b (dpStep s rdram dmem) rdram dmem)) 0) e
 
+-- A run's words fit the output; it stops before its budget only where fewer than 8 bytes of the output are left
+pub record Room (budget : ℕ) (out : List ℕ) (words : ℕ) : Type 0 where
+  pub inBudget : words ≤ budget
+  pub fits : 8 * words ≤ length out
+  pub full : words < budget → length out < 8 * words + 8
+
+pub room-for : (budget : ℕ) (out : List ℕ) → Room budget out (roomFor budget out)
+room-for budget out = omega arith
+
 -- Without FREEZE and FLUSH, a run ends with its budget or with the last of the words yet to fetch
 pub dp-taken-min : (b : ℕ) (s : DpState) (rdram dmem : List ℕ) → DpSound s → s .freeze ≡ false → s .flush ≡ false
     → dpTaken b s rdram dmem ≡ min b (length (toFetch s))
@@ -146,11 +155,11 @@ dp-taken-min (suc b) s rdram dmem h z off =
     let modes = fetched-modes s w in
     by (runs s)
     (λ r.
-    let e : fetches s ≡ true = true-and (runs s) (not (s .freeze)) r (rw z) in
+    let e : fetches s ≡ true = simp (r, z) in
     let rest : dpTaken b (fetched s w) rdram dmem ≡ min b (length (toFetch (fetched s w)))
     = dp-taken-min b (fetched s w) rdram dmem (fetched-kept s w h r) (modes .0 ∙ z) (modes .1 ∙ off) in
     taken-more b s rdram dmem e
     ∙ rw (next-fetched s w e, rest, fetch-next s w h off (ltb-true (s .current) (s .limit) r), suc-min-suc))
     (λ r.
-    taken-none b s rdram dmem (ap (λ (t : Bool). t && not (s .freeze)) r)
+    taken-none b s rdram dmem (simp r)
     ∙ rw (fetch-none s h z (ltb-false (s .current) (s .limit) r), min-zero))

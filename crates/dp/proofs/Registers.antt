@@ -1,27 +1,34 @@
 -- What paper 01 says of the DP registers: reads and writes, framing, SYNC_FULL, ticks, the acknowledge, and where a turn leads.
-use Prim.Native.Nat.{ℕ, suc, _+_, _-_, _*_, _%_, _<_}
+use Prim.Native.Nat.{ℕ, suc, _+_, _-_, _%_, _<_, _≤_}
 use mathlib.Core.Path.{_≡_, refl, sym, ap, _∙_}
 use mathlib.Core.Bool.{Bool, true, false, not, cond, _&&_, _||_, or-true, or-false, and-false, and-true as and-true-right}
 use mathlib.Core.List.{List, [], _∷_}
 use native.Mathlib.Omega.{arith}
 use native.Mathlib.Nat.{le-of-eq, not-le-of-lt}
 use lib.Dec.{eqb}
-use borrow.Author.Tests.{ltb-true, eqb-true, eq-eqb, ne-eqb}
-use Rattle.words.specs.Bits.{bit, asBit, pair, ramAddress}
+use borrow.Author.Tests.{ltb-true, lt-ltb, le-ltb, eqb-true, eq-eqb, ne-eqb}
+use Rattle.words.specs.Bits.{bit, pair, ramAddress}
 use Rattle.words.specs.Memory.{loadWord}
 use Rattle.words.proofs.Tests.{by, either, and-true, true-and, contradiction}
+use Rattle.words.proofs.Tables.{table}
+use Rattle.words.proofs.Bits.{fromBits}
 use Rattle.dp.specs.declared.DpState.{DpState}
 use Rattle.dp.specs.declared.DpRegister.{DpRegister}
 use Rattle.dp.specs.declared.DpRegister.the-variants.{Start, End, Current, Status, Clock, CmdBusy, PipeBusy, TmemBusy}
 use Rattle.dp.specs.Sound.{DpSound}
 use Rattle.dp.specs.Lists.{runs, listStarted, limitMoved, startWritten}
-use Rattle.dp.specs.Registers.{commandBusy, dpRead, modesWritten, flushed, setsFlush, dpWrite, dpTick, dpAcknowledge}
+use Rattle.dp.specs.Registers.{dpRegister, commandBusy, dpRead, modesWritten, flushed, setsFlush, dpWrite, dpTick, dpAcknowledge}
 use Rattle.dp.specs.Turn.{fetches, listWord, nextListWord, opcode, commandLength, syncFull, framed, advanced, fetched, dpNext}
 use Rattle.dp.proofs.Cases.{flush-off, follows, fetched-cases, next-address, list-follows, none-follows, end-cases, status-cases}
-use Rattle.dp.proofs.Listed.{next-fetched}
+use Rattle.dp.proofs.Listed.{next-fetched, next-still}
 
 list-runs : (s : DpState) → fetches s ≡ true → s .current < s .limit
-list-runs s e = ltb-true (s .current) (s .limit) (and-true (runs s) (not (s .freeze)) e .0)
+list-runs s e = ltb-true (s .current) (s .limit) (and-true (runs s) _ e .0)
+
+-- ---- Registers by their addresses
+
+pub register-order : table 8 dpRegister ≡ Start ∷ End ∷ Current ∷ Status ∷ Clock ∷ CmdBusy ∷ PipeBusy ∷ TmemBusy ∷ []
+register-order = refl
 
 -- ---- START and END read back as last written
 
@@ -39,6 +46,21 @@ unfolding dpNext advanced framed listStarted
 turn-keeps-start-end s w =
     let kept : DpState → Type 0 = λ t. (t .start ≡ s .start) × (t .end ≡ s .end) in
     either kept (fetches s) (fetched s w) s (λ _. fetched-cases kept s w (λ _. (refl, refl)) (λ _. (refl, refl))) (λ _. (refl, refl))
+
+-- ---- A START write
+
+-- It sets START_PENDING, and no list starts
+pub record StartPends (s t : DpState) : Type 0 where
+  pub startpending : t .startpending ≡ true
+  pub «end» : t .end ≡ s .end
+  pub current : t .current ≡ s .current
+  pub limit : t .limit ≡ s .limit
+  pub endpending : t .endpending ≡ s .endpending
+  pub pipebusy : t .pipebusy ≡ s .pipebusy
+
+pub start-pends : (s : DpState) (v : ℕ) → StartPends s (dpWrite Start s v)
+unfolding startWritten
+start-pends s v = search
 
 -- ---- An END write
 
@@ -196,11 +218,6 @@ acknowledge-lowers s = record { line = refl; registers = same; limit = refl; wor
 
 -- ---- STATUS
 
--- The number whose bits are given, the lowest first
-abbrev pub fromBits : List Bool → ℕ
-fromBits [] = 0
-fromBits (b ∷ bs) = asBit b + 2 * fromBits bs
-
 pub status-bits : (s : DpState)
     → dpRead Status s
     ≡ fromBits
@@ -250,6 +267,16 @@ flush-written s v e =
     (λ n _. contradiction e n)
 
 -- ---- Where a turn leads
+
+-- A turn fetches a word if a list runs and FREEZE is off. Otherwise nothing changes
+pub list-fetches : (s : DpState) → s .current < s .limit → s .freeze ≡ false → fetches s ≡ true
+list-fetches s r z = simp (lt-ltb (s .current) (s .limit) r, z)
+
+pub no-list-still : (s : DpState) (w : List ℕ) → s .limit ≤ s .current → dpNext s w ≡ s
+no-list-still s w r = next-still s w (simp (le-ltb (s .current) (s .limit) r))
+
+pub freeze-still : (s : DpState) (w : List ℕ) → s .freeze ≡ true → dpNext s w ≡ s
+freeze-still s w z = next-still s w (ap (λ (b : Bool). runs s && not b) z ∙ and-false (runs s))
 
 -- A list goes on to its next word, or to its end where no other waits
 pub turn-advances : (s : DpState) (w : List ℕ) → DpSound s → fetches s ≡ true → s .endpending ≡ false

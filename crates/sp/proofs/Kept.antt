@@ -167,7 +167,7 @@ read-kept DmaBusy s h = h
 read-kept Semaphore s h = semaphore-kept s true h
 
 pub break-kept : (s : SpState) → SpSound s → SpSound (spBreak s)
-break-kept s h = flags-kept s true true (s .sstep) (s .intbreak) (s .signals) (s .line || s .intbreak) (h .fits .signals) h
+break-kept s h = flags-kept s _ _ _ _ (s .signals) _ (h .fits .signals) h
 
 -- "A BREAK sets HALTED and BROKE, and the SP line if INTBREAK"; s is the state before and t the state after it
 pub record BreakSets (s t : SpState) : Type 0 where

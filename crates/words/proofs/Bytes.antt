@@ -1,16 +1,14 @@
 -- The bytes of a stored and of a loaded word.
-use Prim.Native.Nat.{ℕ, zero, suc, _+_, _-_, _%_, _<_, _≤_}
+use Prim.Native.Nat.{ℕ, zero, suc, _+_, _*_, _%_, _^_, _<_, _≤_}
 use mathlib.Core.Path.{_≡_, refl, sym, ap, _∙_}
-use mathlib.Core.Bool.{Bool, true, false, cond}
 use mathlib.Core.List.{List, [], _∷_}
 use native.Mathlib.Omega.{arith}
 use native.Mathlib.Nat.{add-zero}
-use lib.Dec.{leb, eqb}
 use lib.ListN.{length, getD, set, length-set, replicate, List·getD-eq-default, getD-replicate}
 use lib.Seq.{sets, getD-set-same, getD-set-other, length-sets}
-use borrow.Author.Tests.{leb-true, leb-false, eqb-true, eqb-false, le-leb}
-use Rattle.words.specs.Memory.{Memory, Place, RDRAM, DMEM, IMEM, bytesOf, withBytes, fitted, bytesAt, loadWord, storeWord}
-use Rattle.words.proofs.Tests.{by, either}
+use borrow.Author.Tests.{leb-true, leb-false, le-leb}
+use Rattle.words.specs.Memory.{Memory, Place, RDRAM, DMEM, IMEM, bytesOf, withBytes, fitted, bytesAt, loadWord, storeWord, wordValue}
+use Rattle.words.proofs.Tests.{either}
 
 -- ---- A byte after several are set
 
@@ -89,6 +87,13 @@ pub store-inside : (l : List ℕ) (a : ℕ) (w : List ℕ) (i : ℕ) → length 
     → getD (storeWord l a w) (a + i) 0 ≡ getD w i 0
 unfolding storeWord
 store-inside l a w i e h room = rw (le-leb (a + 8) (length l) room) (sets-inside w l a i (omega arith) (omega arith))
+
+-- The value of a word: the first byte is the most significant
+pub word-value : (a b c d e f g h : ℕ)
+    → wordValue (a ∷ b ∷ c ∷ d ∷ e ∷ f ∷ g ∷ h ∷ [])
+    ≡ 2 ^ 56 * a + 2 ^ 48 * b + 2 ^ 40 * c + 2 ^ 32 * d + 2 ^ 24 * e + 2 ^ 16 * f + 2 ^ 8 * g + h
+unfolding wordValue
+word-value a b c d e f g h = omega arith
 
 -- ---- Places
 
