@@ -1,7 +1,7 @@
 -- A turn takes the first of the words yet to fetch, and many turns take them one after another.
 use Prim.Native.Nat.{ℕ, zero, suc, _+_, _-_, _*_, _/_, _%_, _<_, _≤_, min}
 use mathlib.Core.Path.{_≡_, refl, ap, _∙_}
-use mathlib.Core.Bool.{Bool, true, false, cond}
+use mathlib.Core.Bool.{Bool, true, false, cond, and-false}
 use mathlib.Core.List.{List, [], _∷_, _++_, append-nil, append-assoc, map}
 use native.Mathlib.Omega.{arith}
 use native.Mathlib.Nat.{zero-add, suc-add, min-zero, zero-min, suc-min-suc, not-le-of-lt}
@@ -15,7 +15,7 @@ use Rattle.dp.specs.Sound.{DpSound}
 use Rattle.dp.specs.Lists.{runs, listStarted}
 use Rattle.dp.specs.Turn.{fetches, listBytes, listAddress, listWord, nextListWord, framed, advanced, fetched, dpNext, dpStep, dpAfter, handedOut, dpTaken, roomFor}
 use Rattle.dp.specs.Listed.{span, toFetch, listedWords}
-use Rattle.dp.proofs.Cases.{fetched-cases, next-address, list-follows}
+use Rattle.dp.proofs.Cases.{fetched-cases, next-address, list-follows, flush-off}
 use Rattle.dp.proofs.Kept.{fetched-kept}
 
 -- ---- One turn
@@ -145,21 +145,25 @@ pub record Room (budget : ℕ) (out : List ℕ) (words : ℕ) : Type 0 where
 pub room-for : (budget : ℕ) (out : List ℕ) → Room budget out (roomFor budget out)
 room-for budget out = omega arith
 
--- Without FREEZE and FLUSH, a run ends with its budget or with the last of the words yet to fetch
-pub dp-taken-min : (b : ℕ) (s : DpState) (rdram dmem : List ℕ) → DpSound s → s .freeze ≡ false → s .flush ≡ false
+-- A run ends with its budget or with the last of the words yet to fetch; with FREEZE on it takes no turn
+pub dp-taken-min : (b : ℕ) (s : DpState) (rdram dmem : List ℕ) → DpSound s → s .freeze ≡ false
     → dpTaken b s rdram dmem ≡ min b (length (toFetch s))
 unfolding dpTaken
-dp-taken-min zero s rdram dmem h z off = rw zero-min
-dp-taken-min (suc b) s rdram dmem h z off =
+dp-taken-min zero s rdram dmem h z = rw zero-min
+dp-taken-min (suc b) s rdram dmem h z =
     let w = nextListWord s rdram dmem in
-    let modes = fetched-modes s w in
     by (runs s)
     (λ r.
     let e : fetches s ≡ true = simp (r, z) in
+    let below = ltb-true (s .current) (s .limit) r in
     let rest : dpTaken b (fetched s w) rdram dmem ≡ min b (length (toFetch (fetched s w)))
-    = dp-taken-min b (fetched s w) rdram dmem (fetched-kept s w h r) (modes .0 ∙ z) (modes .1 ∙ off) in
-    taken-more b s rdram dmem e
-    ∙ rw (next-fetched s w e, rest, fetch-next s w h off (ltb-true (s .current) (s .limit) r), suc-min-suc))
+    = dp-taken-min b (fetched s w) rdram dmem (fetched-kept s w h r) (fetched-modes s w .0 ∙ z) in
+    taken-more b s rdram dmem e ∙ rw (next-fetched s w e, rest, fetch-next s w h (flush-off s h below) below, suc-min-suc))
     (λ r.
     taken-none b s rdram dmem (simp r)
     ∙ rw (fetch-none s h z (ltb-false (s .current) (s .limit) r), min-zero))
+
+pub dp-taken-frozen : (b : ℕ) (s : DpState) (rdram dmem : List ℕ) → s .freeze ≡ true → dpTaken b s rdram dmem ≡ 0
+unfolding dpTaken
+dp-taken-frozen zero s rdram dmem z = refl
+dp-taken-frozen (suc b) s rdram dmem z = taken-none b s rdram dmem (rw z (and-false (runs s)))

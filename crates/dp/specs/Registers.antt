@@ -54,7 +54,7 @@ modesWritten s v =
     (cond (bit v 7) 0 (s .pipecount))
     (cond (bit v 6) 0 (s .tmemcount))
 
--- A write that sets FLUSH ends the running list, and drops the waiting one and the rest of a command
+-- A write that sets FLUSH: LIMIT is CURRENT, both pending bits and the command words left are cleared, and PIPE_BUSY stays
 unfoldable pub flushed : DpState → DpState
 flushed s = withCommand (withList s (s .current) (s .current) false false (s .pipebusy)) 0 (s .pipebusy) (s .line)
 

@@ -76,7 +76,7 @@ dpNext s word = cond (fetches s) (fetched s word) s
 abbrev pub dpStep : DpState → List ℕ → List ℕ → DpState
 dpStep s rdram dmem = dpNext s (nextListWord s rdram dmem)
 
--- The registers after n turns over lent memory, and the bytes of the words that n fetching turns hand out
+-- The registers after n turns over lent memory, and the bytes of the words that n turns hand out where each of them fetches
 unfoldable pub dpAfter : ℕ → DpState → List ℕ → List ℕ → DpState
 dpAfter zero s rdram dmem = s
 dpAfter (suc n) s rdram dmem = dpAfter n (dpStep s rdram dmem) rdram dmem

@@ -1,6 +1,6 @@
 -- The word formula holds of the calls, on every sound state and lent memory of allowed lengths.
 use Prim.Native.Nat.{ℕ, _%_, _<_, _≤_}
-use mathlib.Core.Path.{_≡_, sym, ap, subst, _∙_}
+use mathlib.Core.Path.{_≡_, refl, sym, ap, subst, _∙_}
 use mathlib.Core.Bool.{Bool, true, false}
 use native.Mathlib.Omega.{arith}
 use lib.Dec.{eqb}
@@ -13,7 +13,7 @@ use Rattle.sp.specs.Sound.{SpSound}
 use Rattle.sp.specs.Transfer.{started, lengthWritten}
 use Rattle.sp.specs.Turn.{spNext, spMove, spAfter, memoryAfter}
 use Rattle.sp.specs.Left.{transferWords}
-use Rattle.sp.specs.Formula.{latched, beforeWord}
+use Rattle.sp.specs.Formula.{Transfer, latched, beforeWord, afterLast, afterWords}
 use Rattle.sp.proofs.Turn.{memory-length}
 use Rattle.sp.proofs.Kept.{started-kept}
 use Rattle.sp.proofs.Formula.{formula, before-word}
@@ -50,9 +50,14 @@ still-busy s word storing k f h =
     ap (λ (u : SpState). u .busy)
     (formula s word storing k f (omega arith) ∙ before-word (started s word storing) (latched s word storing) k h)
 
+-- The start changes nothing that the formula leaves as it was
+same-after : (s : SpState) (word : ℕ) (storing : Bool) (t : Transfer) (k : ℕ) → afterWords (started s word storing) t k ≡ afterWords s t k
+unfolding started afterWords beforeWord afterLast
+same-after s word storing t k = refl
+
 -- From the state in which the transfer has just started
 from-start : (s : State) (m : Memory) (word : ℕ) (storing : Bool) (k : ℕ) → sound s ≡ true → spLengths m ≡ true
-    → k ≤ transferWords word → Transferred (world (withSp s (started (s .sp) word storing)) m) (latched (s .sp) word storing) k
+    → k ≤ transferWords word → Transferred s (world (withSp s (started (s .sp) word storing)) m) (latched (s .sp) word storing) k
 from-start s m word storing k h l hk =
     let u : SpState = started (s .sp) word storing in
     let w : World = world (withSp s u) m in
@@ -61,7 +66,7 @@ from-start s m word storing k h l hk =
     let h′ : sound (withSp s u) ≡ true = with-sp-sound s u h (started-kept (s .sp) word storing f) in
     let e : spTurns k w ≡ world (withSp s (spAfter k u)) (memoryAfter k u m) = turns-are k w h′ l in
     record {
-      registers = ap (λ (v : World). v .state .sp) e ∙ formula (s .sp) word storing k fits hk;
+      registers = ap (λ (v : World). v .state .sp) e ∙ formula (s .sp) word storing k fits hk ∙ same-after (s .sp) word storing (latched (s .sp) word storing) k;
       dp = ap (λ (v : World). v .state .dp) e;
       bytes = rw e (bytes (s .sp) word storing m fits (f .multiples .splatch) (f .multiples .ramlatch) (multiples m l) k hk);
       lengths = rw e (memory-length k u m);
@@ -91,10 +96,10 @@ word-formula w h l =
     let s : State = w .state in
     record {
       fromWrite = λ b word storing k hk.
-          subst (λ (v : State). Transferred (world v (w .memory)) (latched (s .sp) word storing) k) (sym (write-starts s word storing h b))
+          subst (λ (v : State). Transferred s (world v (w .memory)) (latched (s .sp) word storing) k) (sym (write-starts s word storing h b))
           (from-start s (w .memory) word storing k h l hk);
       fromWaiting = λ b e c f k hk.
-          subst (λ (v : World). Transferred v (latched (s .sp) (s .sp .waiting) (s .sp .waitstoring)) k)
+          subst (λ (v : World). Transferred s v (latched (s .sp) (s .sp .waiting) (s .sp .waitstoring)) k)
           (sym (turned-is w h l ∙ ap (λ (u : SpState). world (withSp s u) (spMove (s .sp) (w .memory))) (turn-starts (s .sp) b e c f)))
           (from-start s (spMove (s .sp) (w .memory)) (s .sp .waiting) (s .sp .waitstoring) k h (lengths-next (s .sp) (w .memory) l) hk);
     }

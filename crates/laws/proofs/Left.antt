@@ -1,17 +1,26 @@
--- Words left, of the calls: when the engine falls idle, and what a run leaves and answers.
-use Prim.Native.Nat.{ℕ, min}
-use mathlib.Core.Path.{_≡_, refl, sym, ap, _∙_}
-use mathlib.Core.Bool.{true}
-use Rattle.sp.specs.Turn.{spAfter, memoryAfter, spTaken}
+-- Words left and words yet to fetch, of the calls: when the SP engine falls idle, and what runs leave and answer.
+use Prim.Native.Nat.{ℕ, _/_, min}
+use mathlib.Core.Path.{_≡_, sym, _∙_}
+use mathlib.Core.Bool.{true, cond}
+use mathlib.Core.List.{List}
+use native.Mathlib.Nat.{min-zero}
+use lib.ListN.{length}
+use Rattle.words.proofs.Tests.{by, and-true}
+use Rattle.sp.specs.Turn.{spAfter, memoryAfter}
 use Rattle.sp.specs.Left.{wordsLeft}
 use Rattle.sp.proofs.Left.{busy-left, taken-min}
+use Rattle.dp.specs.declared.DpState.{DpState}
+use Rattle.dp.specs.Sound.{DpSound}
+use Rattle.dp.specs.Turn.{dpTaken, roomFor}
+use Rattle.dp.proofs.Listed.{dp-taken-min, dp-taken-frozen}
 use Rattle.machine.specs.declared.State.{State}
 use Rattle.machine.specs.Sound.{withSp, sound}
-use Rattle.machine.specs.Refusals.{accepted}
-use Rattle.machine.specs.Runs.{spRun, spRunMemory}
+use Rattle.machine.specs.Refusals.{rdramAllowed, bankAllowed, dpRefusal, accepted}
+use Rattle.machine.specs.Runs.{spRun, spRunMemory, dpRun}
+use Rattle.machine.proofs.Sound.{facts}
 use Rattle.words.specs.Memory.{Memory}
-use Rattle.laws.specs.World.{World, world, spLengths, spTurns}
-use Rattle.laws.specs.Left.{WordsLeft}
+use Rattle.laws.specs.World.{World, spLengths, dpLengths}
+use Rattle.laws.specs.Left.{WordsLeft, fetchable, WordsToFetch}
 use Rattle.laws.proofs.Turns.{sp-sound, sp-accepts, turns-are}
 
 -- A run that is not declined
@@ -33,4 +42,27 @@ words-left w h l =
           rw (run-is (w .state) n (w .memory) h l, run-memory-is (w .state) n (w .memory) h l)
           (sym (turns-are (min n (wordsLeft (w .state .sp))) w h l));
       runAnswer = λ n. rw (run-is (w .state) n (w .memory) h l);
+    }
+
+-- ---- DP runs
+
+dp-accepts : (s : State) (rdram dmem : List ℕ) → sound s ≡ true → dpLengths rdram dmem ≡ true → dpRefusal s rdram dmem ≡ 0
+unfolding dpRefusal
+dp-accepts s rdram dmem h l =
+    let e = and-true (rdramAllowed (length rdram)) (bankAllowed (length dmem)) l in
+    rw (e .0, e .1, h)
+
+taken-is : (b : ℕ) (s : DpState) (rdram dmem : List ℕ) → DpSound s → dpTaken b s rdram dmem ≡ min b (fetchable s)
+taken-is b s rdram dmem h =
+    by (s .freeze) (λ z. dp-taken-frozen b s rdram dmem z ∙ rw (z, min-zero)) (λ z. dp-taken-min b s rdram dmem h z ∙ rw z)
+
+pub words-to-fetch : (w : World) → sound (w .state) ≡ true → dpLengths (w .memory .rdram) (w .memory .dmem) ≡ true → WordsToFetch w
+unfolding dpRun
+words-to-fetch w h l =
+    record {
+      runAnswer = λ n out.
+          rw (
+            dp-accepts (w .state) (w .memory .rdram) (w .memory .dmem) h l,
+            taken-is (roomFor n out) (w .state .dp) (w .memory .rdram) (w .memory .dmem) (facts (w .state) h .dp),
+          );
     }

@@ -28,7 +28,7 @@ use Rattle.dp.proofs.Listed.{next-fetched, next-still, words-next, words-none}
 use Rattle.machine.specs.declared.State.{State}
 use Rattle.machine.specs.Refusals.{spRefusal, dpRefusal}
 use Rattle.laws.specs.World.{World, world}
-use Rattle.laws.specs.Order.{Engine, SP, DP, Turn, sp, dp, spWrong, dpWrong, outcome, leaves, leavesAll, turnsOf, answersOf, spFirst, gives, declines, spGives, spRest, dpGives, dpRest, spExpected, dpExpected, accepted, fetchedWords, Outset, listed, Demand3, Declined}
+use Rattle.laws.specs.Order.{Engine, SP, DP, Turn, sp, dp, spWrong, dpWrong, outcome, leaves, leavesAll, turnsOf, answersOf, spFirst, gives, declines, spGives, spRest, dpGives, dpRest, spExpected, dpExpected, undeclined, fetchedWords, Outset, listed, Demand3, Declined}
 use Rattle.laws.proofs.Answers.{spNumber, dpNumber, by-number, sp-alike, dp-alike, sp-wrong, dp-wrong, spDone, dpAnswer, sp-leaves, sp-answers, dp-answers, sp-stays, sp-declines, dp-stays, dp-declines, sp-wrong-stays, sp-wrong-declines, sp-wrong-slices, dp-wrong-stays, dp-wrong-declines, cons}
 use Rattle.laws.proofs.Along.{Along, at-outset, fetch-on, fetch-off, stepOver, fetchedOver, along-sp, along-dp, same-answer, dp-leaves-over}
 
@@ -224,8 +224,8 @@ accepts k n e = omega arith
 refuses : (number r k n : ℕ) → number ≡ suc r → k ≡ n → cond (eqb number 0) 1 0 + k ≡ n
 refuses number r k n e h = rw (e, eqb·suc-zero r) (omega arith)
 
-sp-accepts : (s : State) (r n : ℕ) (ts : List Turn) → accepted (spExpected s r n ts) ≡ spOwn r ts
-unfolding spExpected spOwn accepted
+sp-accepts : (s : State) (r n : ℕ) (ts : List Turn) → undeclined (spExpected s r n ts) ≡ spOwn r ts
+unfolding spExpected spOwn undeclined
 sp-accepts s r n [] = refl
 sp-accepts s zero zero (sp ∷ ts) = accepts _ _ (sp-accepts s 0 0 ts)
 sp-accepts s zero (suc n) (sp ∷ ts) = accepts _ _ (sp-accepts s 0 (suc n - 1) ts)
@@ -236,8 +236,8 @@ sp-accepts s r n (spWrong m h ∷ ts) =
     refuses (spRefusal s m) (e .0) _ _ (e .1) (sp-accepts s r n ts)
 sp-accepts s r n (dpWrong rdram dmem h ∷ ts) = sp-accepts s r n ts
 
-dp-accepts : (s : State) (r : ℕ) (vs : List ℕ) (ts : List Turn) → accepted (dpExpected s r vs ts) ≡ dpOwn r ts
-unfolding dpExpected dpOwn accepted
+dp-accepts : (s : State) (r : ℕ) (vs : List ℕ) (ts : List Turn) → undeclined (dpExpected s r vs ts) ≡ dpOwn r ts
+unfolding dpExpected dpOwn undeclined
 dp-accepts s r vs [] = refl
 dp-accepts s r vs (sp ∷ ts) = dp-accepts s r vs ts
 dp-accepts s zero [] (dp ∷ ts) = accepts _ _ (dp-accepts s 0 [] ts)
@@ -296,7 +296,7 @@ module _ (w : World) (o : Outset w) where
       ∙ ap (dpExpected (w .state) r (listed w)) (h DP)
       ∙ sym (every us .dps ∙ dp-expected (w .state) r (listed w) us)
 
-  idle-after : (ts : List Turn) → leavesAll ts w .state .sp .busy ≡ ltb (accepted (answersOf SP ts w)) (wordsLeft (w .state .sp))
+  idle-after : (ts : List Turn) → leavesAll ts w .state .sp .busy ≡ ltb (undeclined (answersOf SP ts w)) (wordsLeft (w .state .sp))
   idle-after ts =
       let n = wordsLeft (w .state .sp) in
       rw (every ts .sps, sp-accepts (w .state) (spNumber w) n ts, every ts .end)
@@ -311,7 +311,7 @@ module _ (w : World) (o : Outset w) where
     fetched = rw (every ts .dps, dp-accepts (w .state) (dpNumber w) (listed w) ts) (dp-fetches (w .state) (dpNumber w) (listed w) ts);
     idleAfter = idle-after ts;
     idleStays = λ l.
-        idle-turn (leavesAll ts w) (idle-after ts ∙ le-ltb (accepted (answersOf SP ts w)) (wordsLeft (w .state .sp)) l);
+        idle-turn (leavesAll ts w) (idle-after ts ∙ le-ltb (undeclined (answersOf SP ts w)) (wordsLeft (w .state .sp)) l);
   }
 
 -- ---- Declined turns, of any world

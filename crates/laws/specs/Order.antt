@@ -117,9 +117,9 @@ dpExpected s r vs (spWrong m h ∷ ts) = dpExpected s r vs ts
 dpExpected s r vs (dpWrong rdram dmem h ∷ ts) = declines (dpRefusal s rdram dmem) ∷ dpExpected s r vs ts
 
 -- How many answers are no refusals, and the values of those with count 1
-unfoldable pub accepted : List Answer → ℕ
-accepted [] = 0
-accepted (a ∷ rest) = cond (eqb (a .number) 0) 1 0 + accepted rest
+unfoldable pub undeclined : List Answer → ℕ
+undeclined [] = 0
+undeclined (a ∷ rest) = cond (eqb (a .number) 0) 1 0 + undeclined rest
 
 unfoldable pub fetchedWords : List Answer → List ℕ
 fetchedWords [] = []
@@ -168,11 +168,11 @@ pub record Demand3 (w : World) (ts : List Turn) : Type 0 where
   pub spGave : answersOf SP ts w ≡ spExpected (w .state) (spRefusal (w .state) (w .memory)) (wordsLeft (w .state .sp)) ts
   pub dpGave : answersOf DP ts w ≡ dpExpected (w .state) (dpRefusal (w .state) (w .memory .rdram) (w .memory .dmem)) (listed w) ts
   -- The fetched words are the lists' at the outset, in order
-  pub fetched : fetchedWords (answersOf DP ts w) ≡ take (accepted (answersOf DP ts w)) (listed w)
+  pub fetched : fetchedWords (answersOf DP ts w) ≡ take (undeclined (answersOf DP ts w)) (listed w)
   -- The SP falls idle after exactly its words left
-  pub idleAfter : leavesAll ts w .state .sp .busy ≡ ltb (accepted (answersOf SP ts w)) (wordsLeft (w .state .sp))
+  pub idleAfter : leavesAll ts w .state .sp .busy ≡ ltb (undeclined (answersOf SP ts w)) (wordsLeft (w .state .sp))
   -- Then its turns change nothing
-  pub idleStays : wordsLeft (w .state .sp) ≤ accepted (answersOf SP ts w) → leaves sp (leavesAll ts w) ≡ leavesAll ts w
+  pub idleStays : wordsLeft (w .state .sp) ≤ undeclined (answersOf SP ts w) → leaves sp (leavesAll ts w) ≡ leavesAll ts w
 
 -- Declined turns change nothing: neither the state nor the slices that they were handed
 pub record Declined (w : World) : Type 0 where

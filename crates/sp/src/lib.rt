@@ -15,7 +15,7 @@ pub struct SpState {
     pub busy: bool,
     // Its direction: from the bank into RDRAM.
     pub storing: bool,
-    // A transfer waits: the length word last written and its direction.
+    // A transfer waits: the length word last written while busy, and its direction. Both stay after it starts.
     pub full: bool,
     pub waiting: u32,
     pub waitstoring: bool,
