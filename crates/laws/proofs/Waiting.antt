@@ -1,5 +1,6 @@
--- A waiting transfer begins once, over any trace, and a trace begins no more transfers than length words were written.
-use Prim.Native.Nat.{ℕ, zero, suc, _+_, _*_, _/_, _%_, _<_, _≤_}
+-- A waiting transfer begins once, over any trace. After every trace the registers hold what was last written, and no more transfers
+-- began than length words were written.
+use Prim.Native.Nat.{ℕ, zero, suc, _+_, _-_, _*_, _/_, _%_, _<_, _≤_}
 use mathlib.Core.Path.{_≡_, refl, sym, ap, _∙_}
 use mathlib.Core.Bool.{Bool, true, false, not, cond, _&&_, _||_, or-true, or-false, or-assoc}
 use mathlib.Core.Logic.{_↔_}
@@ -7,34 +8,35 @@ use mathlib.Core.List.{List, [], _∷_, map, List·Memᴰ, List·Memᴰ·head, L
 use native.Mathlib.Omega.{arith}
 use lib.Dec.{eqb}
 use lib.ListN.{getD, drop}
-use borrow.Author.Tests.{ne-eqb}
-use Rattle.words.specs.Bits.{asBit, bankAddress, ramAddress}
+use borrow.Author.Tests.{ne-eqb, lt-ltb, le-ltb}
+use Rattle.words.specs.Bits.{asBit, bankAddress, ramAddress, ramAdd}
 use Rattle.words.specs.Memory.{Memory}
 use Rattle.words.proofs.Tests.{by, contradiction}
 use Rattle.sp.specs.declared.SpState.{SpState}
 use Rattle.sp.specs.declared.SpRegister.the-variants as SpReg
-use Rattle.sp.specs.State.{withWaiting}
-use Rattle.sp.specs.Registers.{spWrite}
-use Rattle.sp.specs.Transfer.{started, lengthWritten, nextWord, nextRow, ended}
-use Rattle.sp.specs.Turn.{spNext}
+use Rattle.sp.specs.State.{withWaiting, withSemaphore}
+use Rattle.sp.specs.Registers.{spWrite, spStatusWritten, spBreak}
+use Rattle.sp.specs.Transfer.{bankAdd, started, lengthWritten, nextWord, nextRow, ended}
+use Rattle.sp.specs.Turn.{spNext, spAfter, spTaken}
 use Rattle.sp.specs.Left.{runningWords, transferWords, wordsLeft}
 use Rattle.sp.specs.Sound.{SpSound}
-use Rattle.sp.proofs.Turn.{Case, idle, inRow, endOfRow, starts, ends, cases}
+use Rattle.sp.proofs.Turn.{Case, idle, inRow, endOfRow, starts, ends, cases, after-add}
+use Rattle.sp.proofs.Kept.{next-kept}
 use Rattle.sp.proofs.Left.{left-busy}
 use Rattle.machine.specs.declared.State.{State}
 use Rattle.machine.specs.declared.Outcome.{Outcome}
 use Rattle.machine.specs.declared.Register.{Register}
 use Rattle.machine.specs.declared.Register.the-variants.{Sp, Dp, Unmapped}
-use Rattle.machine.specs.Sound.{sound}
+use Rattle.machine.specs.Sound.{powerUp, withSp, sound}
 use Rattle.machine.specs.Address.{registerAt, addresses}
-use Rattle.machine.specs.Refusals.{check, isRegister, accessRefusal, stateRefusal, spRefusal, dpRefusal, declined, unless}
+use Rattle.machine.specs.Refusals.{check, isRegister, accessRefusal, stateRefusal, spRefusal, dpRefusal, accepted, declined, unless}
 use Rattle.machine.specs.Calls.{readAt, writeAt, readRegister, writeRegister, tick, break, acknowledge}
 use Rattle.machine.specs.Turns.{spTurn, dpTurn}
-use Rattle.machine.proofs.Sound.{facts}
-use Rattle.machine.proofs.Kept.{either-way, read-kept, write-kept, tick-kept, break-kept, acknowledge-kept, sp-turn-kept, dp-turn-kept}
+use Rattle.machine.specs.Runs.{spRun, dpRun}
+use Rattle.machine.proofs.Sound.{facts, power-up-sound}
+use Rattle.machine.proofs.Kept.{either-way, read-kept, write-kept, tick-kept, break-kept, acknowledge-kept, sp-turn-kept, dp-turn-kept, sp-run-kept, dp-run-kept}
 use Rattle.machine.proofs.Address.{sixteen}
-use Rattle.machine.proofs.Refusals.{sp-turn-answers}
-use Rattle.laws.specs.Waiting.{Event, reads, writes, ticks, breaks, acknowledges, spTurns, dpTurns, leaves, leavesAll, Written, noted, note, lastWritten, writtenBefore, isLength, lengthWrites, writesLength, isMove, moves, begins, begun, Starts, Before, BeginsOnce}
+use Rattle.laws.specs.Waiting.{Event, reads, writes, ticks, breaks, acknowledges, spTurnOver, dpTurnOver, spRunOver, dpRunOver, eventLeaves, traceLeaves, Written, noted, note, lastWritten, writtenBefore, Holds, isLength, lengthWrites, writesLength, movesOf, moves, begins, begun, SameTransfer, Starts, Before, BeginsOnce, TraceWritten}
 
 -- ---- What a write does, by the register at its address
 
@@ -111,96 +113,157 @@ write-leaves s a v e = rw e (at (registerAt a))
     at (Dp r) = refl
     at Unmapped = refl
 
--- ---- What a call of the trace does to the SP engine
+-- ---- What was last written, and the registers
 
 abbrev writtenIn : SpState → Written
 writtenIn s = record { splatch = s .splatch; ramlatch = s .ramlatch; word = s .waiting; storing = s .waitstoring }
 
--- From s to t no word is moved and no length word is written, and w is what was last written
-record Still (s t : SpState) (w : Written) : Type 0 where
-  busy : t .busy ≡ s .busy
-  full : t .full ≡ s .full
-  words : runningWords t ≡ runningWords s
-  written : writtenIn t ≡ w
+-- Registers that are the same, with FULL not coming on, hold the same
+holds-on : (w : Written) (s t : SpState) → writtenIn t ≡ writtenIn s → (t .full ≡ true → s .full ≡ true) → Holds w s → Holds w t
+holds-on w s t e f h = record {
+  splatch = ap (λ (x : Written). x .splatch) e ∙ h .splatch;
+  ramlatch = ap (λ (x : Written). x .ramlatch) e ∙ h .ramlatch;
+  waiting = λ g. ap (λ (x : Written). x .word) e ∙ h .waiting (f g);
+  waitstoring = λ g. ap (λ (x : Written). x .storing) e ∙ h .waitstoring (f g);
+}
 
--- A call changes nothing of the transfers but the latches, or writes a length word, or is an SP turn
+-- With FULL on they hold all of it
+holds-all : (w : Written) (s : SpState) → s .full ≡ true → Holds w s → writtenIn s ≡ w
+holds-all w s f h = rw (h .splatch, h .ramlatch, h .waiting f, h .waitstoring f)
+
+-- ---- What a call of the trace does to the SP engine
+
+-- From s to t no word is moved and no length word is written, and f says what was last written
+record Still (s t : SpState) (f : Written → Written) : Type 0 where
+  same : SameTransfer t s
+  full : t .full ≡ s .full
+  holds : (w : Written) → Holds w s → Holds (f w) t
+
+-- A call changes nothing of the transfers but the latches, or writes a length word, or takes SP turns
 data Effect (e : Event) (s : State) : Type 0 where
-  still : isLength e ≡ false → isMove e s ≡ false → Still (s .sp) (leaves e s .sp) (note e (writtenBefore s)) → Effect e s
-  wrote : (v : ℕ) (storing : Bool) → isLength e ≡ true → isMove e s ≡ false → leaves e s .sp ≡ lengthWritten (s .sp) v storing
-      → note e (writtenBefore s) ≡ record { splatch = s .sp .splatch; ramlatch = s .sp .ramlatch; word = v; storing = storing }
-      → Effect e s
-  moved : isLength e ≡ false → isMove e s ≡ true → leaves e s .sp ≡ spNext (s .sp) → note e (writtenBefore s) ≡ writtenBefore s → Effect e s
+  still : isLength e ≡ false → movesOf e s ≡ 0 → Still (s .sp) (eventLeaves e s .sp) (note e) → Effect e s
+  wrote : (v : ℕ) (storing : Bool) → isLength e ≡ true → movesOf e s ≡ 0 → eventLeaves e s .sp ≡ lengthWritten (s .sp) v storing
+      → ((w : Written) → note e w ≡ record { splatch = w .splatch; ramlatch = w .ramlatch; word = v; storing = storing }) → Effect e s
+  turned : isLength e ≡ false → eventLeaves e s .sp ≡ spAfter (movesOf e s) (s .sp) → ((w : Written) → note e w ≡ w) → Effect e s
+
+-- Only other registers change
+others : (s t : SpState) → SameTransfer t s → t .full ≡ s .full → writtenIn t ≡ writtenIn s → Still s t (λ w. w)
+others s t p f e = record { same = p; full = f; holds = λ w h. holds-on w s t e (λ g. sym f ∙ g) h }
+
+-- Nothing changes
+same-transfer : (s : SpState) → SameTransfer s s
+same-transfer s = search
+
+nothing : (s : SpState) → Still s s (λ w. w)
+nothing s = others s s (same-transfer s) refl refl
 
 -- A read changes no more than the semaphore
-read-still : (r : Register) (s : State) → Still (s .sp) (readAt r s .state .sp) (writtenBefore s)
-unfolding runningWords
-read-still (Sp SpReg.SpAddr) s = search
-read-still (Sp SpReg.RamAddr) s = search
-read-still (Sp SpReg.RdLen) s = search
-read-still (Sp SpReg.WrLen) s = search
-read-still (Sp SpReg.Status) s = search
-read-still (Sp SpReg.DmaFull) s = search
-read-still (Sp SpReg.DmaBusy) s = search
-read-still (Sp SpReg.Semaphore) s = search
-read-still (Dp r) s = search
-read-still Unmapped s = search
+read-still : (r : Register) (s : State) → Still (s .sp) (readAt r s .state .sp) (λ w. w)
+read-still (Sp SpReg.SpAddr) s = nothing (s .sp)
+read-still (Sp SpReg.RamAddr) s = nothing (s .sp)
+read-still (Sp SpReg.RdLen) s = nothing (s .sp)
+read-still (Sp SpReg.WrLen) s = nothing (s .sp)
+read-still (Sp SpReg.Status) s = nothing (s .sp)
+read-still (Sp SpReg.DmaFull) s = nothing (s .sp)
+read-still (Sp SpReg.DmaBusy) s = nothing (s .sp)
+read-still (Sp SpReg.Semaphore) s = others (s .sp) (withSemaphore (s .sp) true) (search) refl refl
+read-still (Dp r) s = nothing (s .sp)
+read-still Unmapped s = nothing (s .sp)
 
 -- A call that may be declined
-quiet : (n : ℕ) (s : State) (done : Outcome) → Still (s .sp) (done .state .sp) (writtenBefore s)
-    → Still (s .sp) (unless n (declined s n) done .state .sp) (writtenBefore s)
-quiet n s done h = either-way (λ t. Still (s .sp) (t .sp) (writtenBefore s)) n s done (search) h
+quiet : (n : ℕ) (s : State) (done : Outcome) → Still (s .sp) (done .state .sp) (λ w. w)
+    → Still (s .sp) (unless n (declined s n) done .state .sp) (λ w. w)
+quiet n s done h = either-way (λ t. Still (s .sp) (t .sp) (λ w. w)) n s done (nothing (s .sp)) h
+
+-- A write that starts or queues no transfer, by its register
+write-still : (r : Register) (s : SpState) (v : ℕ) → takesLength r ≡ false → Still s (spWritten r s v) (notes r v)
+write-still (Sp SpReg.SpAddr) s v l =
+    record { same = search; full = refl; holds = λ w h. record { splatch = refl; ramlatch = h .ramlatch; waiting = h .waiting; waitstoring = h .waitstoring } }
+write-still (Sp SpReg.RamAddr) s v l =
+    record { same = search; full = refl; holds = λ w h. record { splatch = h .splatch; ramlatch = refl; waiting = h .waiting; waitstoring = h .waitstoring } }
+write-still (Sp SpReg.RdLen) s v l = contradiction refl l
+write-still (Sp SpReg.WrLen) s v l = contradiction refl l
+write-still (Sp SpReg.Status) s v l = others s (spStatusWritten s v) (search) refl refl
+write-still (Sp SpReg.DmaFull) s v l = nothing s
+write-still (Sp SpReg.DmaBusy) s v l = nothing s
+write-still (Sp SpReg.Semaphore) s v l = others s (withSemaphore s false) (search) refl refl
+write-still (Dp r) s v l = nothing s
+write-still Unmapped s v l = nothing s
+
+-- A write of v to s at an address of the register r
+record WriteTo (r : Register) (a v : ℕ) (s : State) : Type 0 where
+  leaves : writeRegister s a v .state .sp ≡ spWritten r (s .sp) v
+  written : (w : Written) → noted a v w ≡ notes r v w
+  length : (eqb a 0x04040008 || eqb a 0x0404000C) ≡ takesLength r
 
 write-effect : (a v : ℕ) (f : v < 0x100000000) (s : State) → sound s ≡ true → Effect (writes a v f) s
-unfolding runningWords
-write-effect a v f s h =
-    at (registerAt a) (write-leaves s a v h) (notes-at a v (writtenBefore s)) (length-at a)
+write-effect a v f s h = at (registerAt a) (record { leaves = write-leaves s a v h; written = notes-at a v; length = length-at a })
   where
-    at : (r : Register) → writeRegister s a v .state .sp ≡ spWritten r (s .sp) v → noted a v (writtenBefore s) ≡ notes r v (writtenBefore s)
-        → (eqb a 0x04040008 || eqb a 0x0404000C) ≡ takesLength r → Effect (writes a v f) s
-    at (Sp SpReg.SpAddr) p q l = still l refl (rw (p, q) (search))
-    at (Sp SpReg.RamAddr) p q l = still l refl (rw (p, q) (search))
-    at (Sp SpReg.RdLen) p q l = wrote v false l refl p q
-    at (Sp SpReg.WrLen) p q l = wrote v true l refl p q
-    at (Sp SpReg.Status) p q l = still l refl (rw (p, q) (search))
-    at (Sp SpReg.DmaFull) p q l = still l refl (rw (p, q) (search))
-    at (Sp SpReg.DmaBusy) p q l = still l refl (rw (p, q) (search))
-    at (Sp SpReg.Semaphore) p q l = still l refl (rw (p, q) (search))
-    at (Dp r) p q l = still l refl (rw (p, q) (search))
-    at Unmapped p q l = still l refl (rw (p, q) (search))
+    short : (r : Register) → takesLength r ≡ false → WriteTo r a v s → Effect (writes a v f) s
+    short r e p =
+        let k = write-still r (s .sp) v e in
+        still (p .length ∙ e) refl
+        (rw (p .leaves) (record { same = k .same; full = k .full; holds = λ w g. rw (p .written w) (k .holds w g) }))
 
+    at : (r : Register) → WriteTo r a v s → Effect (writes a v f) s
+    at (Sp SpReg.SpAddr) p = short (Sp SpReg.SpAddr) refl p
+    at (Sp SpReg.RamAddr) p = short (Sp SpReg.RamAddr) refl p
+    at (Sp SpReg.RdLen) p = wrote v false (p .length) refl (p .leaves) (p .written)
+    at (Sp SpReg.WrLen) p = wrote v true (p .length) refl (p .leaves) (p .written)
+    at (Sp SpReg.Status) p = short (Sp SpReg.Status) refl p
+    at (Sp SpReg.DmaFull) p = short (Sp SpReg.DmaFull) refl p
+    at (Sp SpReg.DmaBusy) p = short (Sp SpReg.DmaBusy) refl p
+    at (Sp SpReg.Semaphore) p = short (Sp SpReg.Semaphore) refl p
+    at (Dp r) p = short (Dp r) refl p
+    at Unmapped p = short Unmapped refl p
+
+-- An SP turn or run leaves what its turns leave; declined, it takes none
 turn-leaves : (s : State) (m : Memory) → spRefusal s m ≡ 0 → spTurn s m .state .sp ≡ spNext (s .sp)
 unfolding spTurn
 turn-leaves s m e = rw e
 
-turn-declined : (s : State) (m : Memory) (n : ℕ) → spRefusal s m ≡ suc n → spTurn s m .state ≡ s
-turn-declined s m n e = ap (λ (o : Outcome). o .state) (sp-turn-answers s m .refused n e)
-
-turn-effect : (m : Memory) (s : State) → Effect (spTurns m) s
-turn-effect m s = at (spRefusal s m) refl
+turn-moves : (s : State) (m : Memory) → spTurn s m .state .sp ≡ spAfter (asBit (eqb (spRefusal s m) 0)) (s .sp)
+unfolding spTurn spAfter
+turn-moves s m = at (spRefusal s m)
   where
-    at : (n : ℕ) → spRefusal s m ≡ n → Effect (spTurns m) s
-    at zero e = moved refl (rw e) (turn-leaves s m e) refl
-    at (suc n) e = still refl (rw e (ne-eqb (suc n) 0 (λ z. absurd (omega arith)))) (rw (turn-declined s m n e) (search))
+    at : (n : ℕ) → unless n (declined s n) (accepted (withSp s (spNext (s .sp))) 0 (asBit (s .sp .busy))) .state .sp ≡ spAfter (asBit (eqb n 0)) (s .sp)
+    at zero = refl
+    at (suc n) = rw (ne-eqb (suc n) 0 (λ z. absurd (omega arith)))
+
+run-moves : (s : State) (budget : ℕ) (m : Memory) → spRun s budget m .state .sp ≡ spAfter (spRun s budget m .answer .count) (s .sp)
+unfolding spRun spAfter
+run-moves s budget m = at (spRefusal s m) (spTaken budget (s .sp))
+  where
+    run : ℕ → ℕ → Outcome
+    run n k = unless n (declined s n) (accepted (withSp s (spAfter k (s .sp))) 0 k)
+
+    at : (n k : ℕ) → run n k .state .sp ≡ spAfter (run n k .answer .count) (s .sp)
+    at zero k = refl
+    at (suc n) k = refl
 
 effect : (e : Event) (s : State) → sound s ≡ true → Effect e s
-unfolding readRegister tick break acknowledge dpTurn runningWords
+unfolding readRegister tick break acknowledge dpTurn dpRun
 effect (reads a) s h = still refl refl (quiet (accessRefusal s a) s (readAt (registerAt a) s) (read-still (registerAt a) s))
 effect (writes a v f) s h = write-effect a v f s h
-effect (ticks n) s h = still refl refl (quiet (stateRefusal s) s _ (search))
-effect breaks s h = still refl refl (quiet (stateRefusal s) s _ (search))
-effect acknowledges s h = still refl refl (quiet (stateRefusal s) s _ (search))
-effect (spTurns m) s h = turn-effect m s
-effect (dpTurns rdram dmem) s h = still refl refl (quiet (dpRefusal s rdram dmem) s _ (search))
+effect (ticks n) s h = still refl refl (quiet (stateRefusal s) s _ (nothing (s .sp)))
+effect breaks s h = still refl refl (quiet (stateRefusal s) s _ (others (s .sp) (spBreak (s .sp)) (search) refl refl))
+effect acknowledges s h = still refl refl (quiet (stateRefusal s) s _ (nothing (s .sp)))
+effect (spTurnOver m) s h = turned refl (turn-moves s m) (λ w. refl)
+effect (dpTurnOver rdram dmem) s h = still refl refl (quiet (dpRefusal s rdram dmem) s _ (nothing (s .sp)))
+effect (spRunOver budget m) s h = turned refl (run-moves s budget m) (λ w. refl)
+effect (dpRunOver budget rdram dmem out) s h = still refl refl (quiet (dpRefusal s rdram dmem) s _ (nothing (s .sp)))
 
 -- Every call leaves a sound state
-leaves-kept : (e : Event) (s : State) → sound s ≡ true → sound (leaves e s) ≡ true
-leaves-kept (reads a) s h = read-kept s a h
-leaves-kept (writes a v f) s h = write-kept s a v f h
-leaves-kept (ticks n) s h = tick-kept s n h
-leaves-kept breaks s h = break-kept s h
-leaves-kept acknowledges s h = acknowledge-kept s h
-leaves-kept (spTurns m) s h = sp-turn-kept s m h
-leaves-kept (dpTurns rdram dmem) s h = dp-turn-kept s rdram dmem h
+event-kept : (e : Event) (s : State) → sound s ≡ true → sound (eventLeaves e s) ≡ true
+event-kept (reads a) s h = read-kept s a h
+event-kept (writes a v f) s h = write-kept s a v f h
+event-kept (ticks n) s h = tick-kept s n h
+event-kept breaks s h = break-kept s h
+event-kept acknowledges s h = acknowledge-kept s h
+event-kept (spTurnOver m) s h = sp-turn-kept s m h
+event-kept (dpTurnOver rdram dmem) s h = dp-turn-kept s rdram dmem h
+event-kept (spRunOver budget m) s h = sp-run-kept s budget m h
+event-kept (dpRunOver budget rdram dmem out) s h = dp-run-kept s budget rdram dmem out h
 
 -- ---- A length word is written
 
@@ -212,25 +275,86 @@ length-idle : (s : SpState) (v : ℕ) (storing : Bool) → s .busy ≡ false →
 unfolding lengthWritten
 length-idle s v storing b = rw b
 
+-- Busy, it waits; idle, nothing does
+length-holds : (w : Written) (s : SpState) (v : ℕ) (storing : Bool) → Holds w s
+    → Holds (record { splatch = w .splatch; ramlatch = w .ramlatch; word = v; storing = storing }) (lengthWritten s v storing)
+unfolding started
+length-holds w s v storing h =
+    by (s .busy)
+    (λ b. rw (length-busy s v storing b) (record { splatch = h .splatch; ramlatch = h .ramlatch; waiting = λ _. refl; waitstoring = λ _. refl }))
+    (λ b.
+    rw (length-idle s v storing b)
+    (record { splatch = h .splatch; ramlatch = h .ramlatch; waiting = λ f. contradiction f refl; waitstoring = λ f. contradiction f refl }))
+
+-- ---- Turns
+
+-- From s to t, turns turn neither BUSY nor FULL on, and keep latches, waiting word and its direction
+record Turned (s t : SpState) : Type 0 where
+  busy : t .busy ≡ true → s .busy ≡ true
+  full : t .full ≡ true → s .full ≡ true
+  written : writtenIn t ≡ writtenIn s
+
+next-turned : (s : SpState) → Turned s (spNext s)
+unfolding nextWord nextRow started ended
+next-turned s = go (cases s)
+  where
+    go : Case s → Turned s (spNext s)
+    go (idle b e) = rw e (record { busy = λ x. x; full = λ x. x; written = refl })
+    go (inRow b l e) = rw e (record { busy = λ _. b; full = λ x. x; written = refl })
+    go (endOfRow b l c e) = rw e (record { busy = λ _. b; full = λ x. x; written = refl })
+    go (starts b l c f e) = rw e (record { busy = λ _. b; full = λ _. f; written = refl })
+    go (ends b l c f e) = rw e (record { busy = λ _. b; full = λ x. contradiction x refl; written = refl })
+
+after-turned : (n : ℕ) (s : SpState) → Turned s (spAfter n s)
+unfolding spAfter
+after-turned zero s = record { busy = λ x. x; full = λ x. x; written = refl }
+after-turned (suc n) s =
+    let first = next-turned s in
+    let rest = after-turned n (spNext s) in
+    record { busy = λ x. first .busy (rest .busy x); full = λ x. first .full (rest .full x); written = rest .written ∙ first .written }
+
+-- ---- What was last written stays in the registers
+
+event-holds : (e : Event) (s : State) → sound s ≡ true → (w : Written) → Holds w (s .sp) → Holds (note e w) (eventLeaves e s .sp)
+event-holds e s h w g = go (effect e s h)
+  where
+    go : Effect e s → Holds (note e w) (eventLeaves e s .sp)
+    go (still l m k) = k .holds w g
+    go (wrote v storing l m p q) = rw (p, q w) (length-holds w (s .sp) v storing g)
+    go (turned l p q) =
+        let t = after-turned (movesOf e s) (s .sp) in
+        rw (p, q w) (holds-on w (s .sp) (spAfter (movesOf e s) (s .sp)) (t .written) (t .full) g)
+
+trace-holds : (es : List Event) (s : State) → sound s ≡ true → (w : Written) → Holds w (s .sp) → Holds (lastWritten es w) (traceLeaves es s .sp)
+unfolding lastWritten traceLeaves
+trace-holds [] s h w g = g
+trace-holds (e ∷ es) s h w g = trace-holds es (eventLeaves e s) (event-kept e s h) (note e w) (event-holds e s h w g)
+
 -- ---- Each beginning uses up a length word
 
 -- Between s and t: the one written in this call, or the one that waited
 abbrev Uses : Bool → SpState → SpState → Type 0
 Uses new s t = asBit (begins s t) + asBit (t .full) ≤ asBit new + asBit (s .full)
 
+-- Where BUSY and FULL do not come on none begins but the one that waited
+turned-uses : (new : Bool) (s t : SpState) → (t .busy ≡ true → s .busy ≡ true) → (t .full ≡ true → s .full ≡ true) → Uses new s t
+turned-uses new s t p q = rw (not-on (s .busy) (t .busy) p) (off (s .full) (t .full) q)
+  where
+    not-on : (b c : Bool) → (c ≡ true → b ≡ true) → (not b && c) ≡ false
+    not-on true c p = refl
+    not-on false true p = contradiction (p refl) refl
+    not-on false false p = refl
+
+    off : (f g : Bool) → (g ≡ true → f ≡ true) → asBit (f && not g) + asBit g ≤ asBit new + asBit f
+    off true true p = omega arith
+    off true false p = omega arith
+    off false true p = contradiction (p refl) refl
+    off false false p = omega arith
+
 -- The same by BUSY and FULL before, and BUSY and FULL after
 uses : (new : Bool) (s t : SpState) (b f c g : Bool) → s .busy ≡ b → s .full ≡ f → t .busy ≡ c → t .full ≡ g
     → asBit ((not b && c) || (f && not g)) + asBit g ≤ asBit new + asBit f → Uses new s t
 uses new s t b f c g p q r u h = rw (p, q, r, u) h
-
-same-uses : (new : Bool) (s t : SpState) → t .busy ≡ s .busy → t .full ≡ s .full → Uses new s t
-same-uses new s t p q = uses new s t (s .busy) (s .full) (s .busy) (s .full) refl refl p q (bits (s .busy) (s .full))
-  where
-    bits : (b f : Bool) → asBit ((not b && b) || (f && not f)) + asBit f ≤ asBit new + asBit f
-    bits true true = omega arith
-    bits true false = omega arith
-    bits false true = omega arith
-    bits false false = omega arith
 
 length-uses : (s : SpState) (v : ℕ) (storing : Bool) → SpSound s → Uses true s (lengthWritten s v storing)
 unfolding started
@@ -246,38 +370,42 @@ length-uses s v storing h =
     none : s .busy ≡ false → s .full ≡ false
     none b = by (s .full) (λ f. contradiction (h .fullBusy f) b) (λ f. f)
 
-next-uses : (s : SpState) → Uses false s (spNext s)
-unfolding nextWord nextRow started ended
-next-uses s = go (cases s)
-  where
-    go : Case s → Uses false s (spNext s)
-    go (idle b e) = rw e (same-uses false s s refl refl)
-    go (inRow b l e) = rw e (same-uses false s (nextWord s) (sym b) refl)
-    go (endOfRow b l c e) = rw e (same-uses false s (nextRow s) (sym b) refl)
-    go (starts b l c f e) = rw e (uses false s (started s (s .waiting) (s .waitstoring)) true true true false b f refl refl (omega arith))
-    go (ends b l c f e) = rw e (uses false s (ended s) true false false false b f refl refl (omega arith))
-
-event-uses : (e : Event) (s : State) → sound s ≡ true → Uses (isLength e) (s .sp) (leaves e s .sp)
+event-uses : (e : Event) (s : State) → sound s ≡ true → Uses (isLength e) (s .sp) (eventLeaves e s .sp)
 event-uses e s h = go (effect e s h)
   where
-    go : Effect e s → Uses (isLength e) (s .sp) (leaves e s .sp)
-    go (still l m k) = same-uses (isLength e) (s .sp) (leaves e s .sp) (k .busy) (k .full)
+    go : Effect e s → Uses (isLength e) (s .sp) (eventLeaves e s .sp)
+    go (still l m k) =
+        turned-uses (isLength e) (s .sp) (eventLeaves e s .sp) (λ b. sym (k .same .busy) ∙ b) (λ f. sym (k .full) ∙ f)
     go (wrote v storing l m p q) = rw (l, p) (length-uses (s .sp) v storing (facts s h .sp))
-    go (moved l m p q) = rw (l, p) (next-uses (s .sp))
+    go (turned l p q) =
+        let t = after-turned (movesOf e s) (s .sp) in
+        rw (l, p) (turned-uses false (s .sp) (spAfter (movesOf e s) (s .sp)) (t .busy) (t .full))
 
 -- A trace begins no more transfers than length words were written in it, and one more where one waited before
 pub begun-at-most : (es : List Event) (s : State) → sound s ≡ true
-    → begun es s + asBit (leavesAll es s .sp .full) ≤ lengthWrites es + asBit (s .sp .full)
-unfolding begun leavesAll lengthWrites
+    → begun es s + asBit (traceLeaves es s .sp .full) ≤ lengthWrites es + asBit (s .sp .full)
+unfolding begun traceLeaves lengthWrites
 begun-at-most [] s h = omega arith
 begun-at-most (e ∷ es) s h =
-    chain (asBit (begins (s .sp) (leaves e s .sp))) (begun es (leaves e s)) (asBit (leavesAll es (leaves e s) .sp .full))
-    (asBit (leaves e s .sp .full)) (asBit (isLength e)) (lengthWrites es) (asBit (s .sp .full))
+    chain (asBit (begins (s .sp) (eventLeaves e s .sp))) (begun es (eventLeaves e s)) (asBit (traceLeaves es (eventLeaves e s) .sp .full))
+    (asBit (eventLeaves e s .sp .full)) (asBit (isLength e)) (lengthWrites es) (asBit (s .sp .full))
     (event-uses e s h)
-    (begun-at-most es (leaves e s) (leaves-kept e s h))
+    (begun-at-most es (eventLeaves e s) (event-kept e s h))
   where
     chain : (a b c d i j k : ℕ) → a + d ≤ i + k → b + c ≤ j + d → a + b + c ≤ i + j + k
     chain a b c d i j k p q = omega arith
+
+-- Every trace from a sound state
+pub trace-written : (s : State) (es : List Event) → sound s ≡ true → TraceWritten s es
+trace-written s es h = record {
+  holds =
+      trace-holds es s h (writtenBefore s) (record { splatch = refl; ramlatch = refl; waiting = λ _. refl; waitstoring = λ _. refl });
+  atMost = begun-at-most es s h;
+}
+
+-- From power-up nothing was written before: the trace alone decides
+pub from-power-up : (es : List Event) → TraceWritten powerUp es
+from-power-up es = trace-written powerUp es power-up-sound
 
 -- ---- The words of the running transfer
 
@@ -300,71 +428,153 @@ last s h = (λ e. ends-at (s .len) (s .count) (s .row) (h .multiples .len) e, λ
     one : (len count row : ℕ) → len ≡ 0 → count ≡ 0 → len / 8 + 1 + count * (row / 8 + 1) ≡ 1
     one len count row p q = rw (p, q) (omega arith)
 
--- From s to t the transfer goes on with one word less, and what waits and the latches stay
-record GoesOn (s t : SpState) : Type 0 where
+same-words : (s t : SpState) → SameTransfer s t → runningWords s ≡ runningWords t
+unfolding runningWords
+same-words s t p = rw (p .len, p .count, p .row)
+
+-- From s to t the transfer goes on with n words less, and what waits stays
+record GoesOn (n : ℕ) (s t : SpState) : Type 0 where
   busy : t .busy ≡ true
   full : t .full ≡ s .full
-  words : suc (runningWords t) ≡ runningWords s
-  written : writtenIn t ≡ writtenIn s
+  words : n + runningWords t ≡ runningWords s
 
-goes-on : (s : SpState) → SpSound s → s .busy ≡ true → 1 < runningWords s → GoesOn s (spNext s)
+goes-on : (s : SpState) → SpSound s → s .busy ≡ true → 1 < runningWords s → GoesOn 1 s (spNext s)
 unfolding nextWord nextRow
 goes-on s h b more = go (cases s)
   where
-    less : (t : SpState) → spNext s ≡ t → t .busy ≡ true → t .full ≡ s .full → writtenIn t ≡ writtenIn s → GoesOn s (spNext s)
+    less : (t : SpState) → spNext s ≡ t → t .busy ≡ true → t .full ≡ s .full → t .waiting ≡ s .waiting → GoesOn 1 s (spNext s)
     less t e i f w =
-        let same : waitingWords t ≡ waitingWords s = rw (f, ap (λ (x : Written). x .word) w) in
+        let same : waitingWords t ≡ waitingWords s = rw (f, w) in
         let step : wordsLeft s ≡ suc (wordsLeft t) = rw e at (left-busy s h b) in
-        rw e (record { busy = i; full = f; words = omega (arith, left-is s b, left-is t i); written = w })
+        rw e (record { busy = i; full = f; words = omega (arith, left-is s b, left-is t i) })
 
-    not-last : s .len ≡ 0 → s .count ≡ 0 → GoesOn s (spNext s)
+    not-last : s .len ≡ 0 → s .count ≡ 0 → GoesOn 1 s (spNext s)
     not-last l c = absurd (omega (arith, last s h .1 (l, c)))
 
-    go : Case s → GoesOn s (spNext s)
+    go : Case s → GoesOn 1 s (spNext s)
     go (idle i e) = contradiction b i
     go (inRow i l e) = less (nextWord s) e refl refl refl
     go (endOfRow i l c e) = less (nextRow s) e refl refl refl
     go (starts i l c f e) = not-last l c
     go (ends i l c f e) = not-last l c
 
+after-goes-on : (n : ℕ) (s : SpState) → SpSound s → s .busy ≡ true → n < runningWords s → GoesOn n s (spAfter n s)
+unfolding spAfter
+after-goes-on zero s h b more = record { busy = b; full = refl; words = omega arith }
+after-goes-on (suc n) s h b more =
+    let k = goes-on s h b (omega arith) in
+    let r = after-goes-on n (spNext s) (next-kept s h) (k .busy) (omega (arith, k .words)) in
+    record { busy = r .busy; full = r .full ∙ k .full; words = omega (arith, k .words, r .words) }
+
+-- ---- Turns of the same transfer
+
+in-row : (s : SpState) → s .busy ≡ true → 0 < s .len → spNext s ≡ nextWord s
+unfolding spNext
+in-row s b l = rw (b, lt-ltb 0 (s .len) l)
+
+end-of-row : (s : SpState) → s .busy ≡ true → s .len ≡ 0 → 0 < s .count → spNext s ≡ nextRow s
+unfolding spNext
+end-of-row s b l c = rw (b, le-ltb 0 (s .len) (omega arith), lt-ltb 0 (s .count) c)
+
+same-word : (s t : SpState) → SameTransfer s t → SameTransfer (nextWord s) (nextWord t)
+unfolding nextWord
+same-word s t p = record {
+  spaddr = ap (λ (a : ℕ). bankAdd a 8) (p .spaddr);
+  ramaddr = ap (λ (a : ℕ). ramAdd a 8) (p .ramaddr);
+  len = ap (λ (n : ℕ). n - 8) (p .len);
+  count = p .count;
+  skip = p .skip;
+  row = p .row;
+  storing = p .storing;
+  busy = refl;
+}
+
+same-row : (s t : SpState) → SameTransfer s t → SameTransfer (nextRow s) (nextRow t)
+unfolding nextRow
+same-row s t p = record {
+  spaddr = ap (λ (a : ℕ). bankAdd a 8) (p .spaddr);
+  ramaddr = rw (p .ramaddr, p .skip);
+  len = p .row;
+  count = ap (λ (n : ℕ). n - 1) (p .count);
+  skip = p .skip;
+  row = p .row;
+  storing = p .storing;
+  busy = refl;
+}
+
+-- Before its last word a turn's transfer depends on no other register
+same-next : (s t : SpState) → SpSound s → s .busy ≡ true → 1 < runningWords s → SameTransfer s t → SameTransfer (spNext s) (spNext t)
+same-next s t h b more p = go (cases s)
+  where
+    busy : t .busy ≡ true
+    busy = sym (p .busy) ∙ b
+
+    not-last : s .len ≡ 0 → s .count ≡ 0 → SameTransfer (spNext s) (spNext t)
+    not-last l c = absurd (omega (arith, last s h .1 (l, c)))
+
+    go : Case s → SameTransfer (spNext s) (spNext t)
+    go (idle i e) = contradiction b i
+    go (inRow i l e) = rw (e, in-row t busy (omega (arith, p .len))) (same-word s t p)
+    go (endOfRow i l c e) = rw (e, end-of-row t busy (omega (arith, p .len)) (omega (arith, p .count))) (same-row s t p)
+    go (starts i l c f e) = not-last l c
+    go (ends i l c f e) = not-last l c
+
+same-after : (n : ℕ) (s t : SpState) → SpSound s → s .busy ≡ true → n < runningWords s → SameTransfer s t → SameTransfer (spAfter n s) (spAfter n t)
+unfolding spAfter
+same-after zero s t h b more p = p
+same-after (suc n) s t h b more p =
+    let k = goes-on s h b (omega arith) in
+    same-after n (spNext s) (spNext t) (next-kept s h) (k .busy) (omega (arith, k .words)) (same-next s t h b (omega arith) p)
+
+same-again : (s t u : SpState) → SameTransfer s t → SameTransfer t u → SameTransfer s u
+same-again s t u p q = record {
+  spaddr = p .spaddr ∙ q .spaddr;
+  ramaddr = p .ramaddr ∙ q .ramaddr;
+  len = p .len ∙ q .len;
+  count = p .count ∙ q .count;
+  skip = p .skip ∙ q .skip;
+  row = p .row ∙ q .row;
+  storing = p .storing ∙ q .storing;
+  busy = p .busy ∙ q .busy;
+}
+
 -- ---- Along the trace
 
 -- One call while the running transfer has words to move after it
 record Step (e : Event) (s : State) : Type 0 where
-  busy : leaves e s .sp .busy ≡ true
-  left : asBit (isMove e s) + runningWords (leaves e s .sp) ≡ runningWords (s .sp)
-  full : leaves e s .sp .full ≡ (s .sp .full || isLength e)
-  written : writtenBefore (leaves e s) ≡ note e (writtenBefore s)
+  busy : eventLeaves e s .sp .busy ≡ true
+  left : movesOf e s + runningWords (eventLeaves e s .sp) ≡ runningWords (s .sp)
+  full : eventLeaves e s .sp .full ≡ (s .sp .full || isLength e)
+  same : SameTransfer (eventLeaves e s .sp) (spAfter (movesOf e s) (s .sp))
 
-waiting-words : (s : SpState) (v : ℕ) (storing : Bool) → runningWords (withWaiting s v storing) ≡ runningWords s
-unfolding runningWords
-waiting-words s v storing = refl
-
-step : (e : Event) (s : State) → sound s ≡ true → s .sp .busy ≡ true → asBit (isMove e s) < runningWords (s .sp) → Step e s
+step : (e : Event) (s : State) → sound s ≡ true → s .sp .busy ≡ true → movesOf e s < runningWords (s .sp) → Step e s
+unfolding spAfter
 step e s h b more = go (effect e s h)
   where
-    go : Effect e s → Step e s
-    go (still l m k) = record {
-      busy = k .busy ∙ b;
-      left = omega (arith, ap asBit m, k .words);
-      full = k .full ∙ rw l (sym (or-false (s .sp .full)));
-      written = k .written;
+    -- No word is moved
+    stays : movesOf e s ≡ 0 → SameTransfer (eventLeaves e s .sp) (s .sp) → eventLeaves e s .sp .full ≡ (s .sp .full || isLength e) → Step e s
+    stays m p f = record {
+      busy = p .busy ∙ b;
+      left = omega (arith, m, same-words (eventLeaves e s .sp) (s .sp) p);
+      full = f;
+      same = rw m p;
     }
+
+    waits : (v : ℕ) (storing : Bool) → SameTransfer (withWaiting (s .sp) v storing) (s .sp)
+    waits v storing = search
+
+    go : Effect e s → Step e s
+    go (still l m k) = stays m (k .same) (k .full ∙ rw l (sym (or-false (s .sp .full))))
     go (wrote v storing l m p q) =
-        let waits = p ∙ length-busy (s .sp) v storing b in
-        record {
-          busy = ap (λ (t : SpState). t .busy) waits ∙ b;
-          left = omega (arith, ap asBit m, ap runningWords waits ∙ waiting-words (s .sp) v storing);
-          full = ap (λ (t : SpState). t .full) waits ∙ rw l (sym (or-true (s .sp .full)));
-          written = ap writtenIn waits ∙ sym q;
-        }
-    go (moved l m p q) =
-        let k : GoesOn (s .sp) (leaves e s .sp) = rw p (goes-on (s .sp) (facts s h .sp) b (omega (arith, more, ap asBit m))) in
+        let w = p ∙ length-busy (s .sp) v storing b in
+        stays m (rw w (waits v storing)) (ap (λ (t : SpState). t .full) w ∙ rw l (sym (or-true (s .sp .full))))
+    go (turned l p q) =
+        let k : GoesOn (movesOf e s) (s .sp) (eventLeaves e s .sp) = rw p (after-goes-on (movesOf e s) (s .sp) (facts s h .sp) b more) in
         record {
           busy = k .busy;
-          left = omega (arith, ap asBit m, k .words);
+          left = k .words;
           full = k .full ∙ rw l (sym (or-false (s .sp .full)));
-          written = k .written ∙ sym q;
+          same = rw p (same-transfer (spAfter (movesOf e s) (s .sp)));
         }
 
 -- Nothing begins in a busy engine whose FULL does not go off
@@ -375,43 +585,50 @@ busy-begins s t new b f = rw (b, f) (bits (s .full))
     bits true = refl
     bits false = refl
 
--- A trace from s to t that leaves the running transfer words to move. None begins, and what waits is what was last written
+-- A trace from s to t that leaves the running transfer words to move. None begins, and only turns move the running one
 record Along (es : List Event) (s t : State) : Type 0 where
   isSound : sound t ≡ true
   busy : t .sp .busy ≡ true
   left : moves es s + runningWords (t .sp) ≡ runningWords (s .sp)
   none : begun es s ≡ 0
   full : t .sp .full ≡ (s .sp .full || writesLength es)
-  written : writtenBefore t ≡ lastWritten es (writtenBefore s)
+  same : SameTransfer (t .sp) (spAfter (moves es s) (s .sp))
 
-along : (es : List Event) (s : State) → sound s ≡ true → s .sp .busy ≡ true → moves es s < runningWords (s .sp) → Along es s (leavesAll es s)
-unfolding leavesAll moves begun writesLength lastWritten
-along [] s h b more = record { isSound = h; busy = b; left = omega arith; none = refl; full = sym (or-false (s .sp .full)); written = refl }
+along : (es : List Event) (s : State) → sound s ≡ true → s .sp .busy ≡ true → moves es s < runningWords (s .sp) → Along es s (traceLeaves es s)
+unfolding traceLeaves moves begun writesLength spAfter
+along [] s h b more =
+    record { isSound = h; busy = b; left = omega arith; none = refl; full = sym (or-false (s .sp .full)); same = same-transfer (s .sp) }
 along (e ∷ es) s h b more =
+    let t = eventLeaves e s in
     let now = step e s h b (omega arith) in
-    let rest = along es (leaves e s) (leaves-kept e s h) (now .busy) (omega (arith, now .left)) in
+    let rest = along es t (event-kept e s h) (now .busy) (omega (arith, now .left)) in
     record {
       isSound = rest .isSound;
       busy = rest .busy;
       left = omega (arith, rest .left, now .left);
-      none = rw (busy-begins (s .sp) (leaves e s .sp) (isLength e) b (now .full)) (omega (arith, rest .none));
+      none = rw (busy-begins (s .sp) (t .sp) (isLength e) b (now .full)) (omega (arith, rest .none));
       full = rest .full ∙ ap (λ (x : Bool). x || writesLength es) (now .full) ∙ or-assoc (s .sp .full) (isLength e) (writesLength es);
-      written = rest .written ∙ ap (lastWritten es) (now .written);
+      same =
+          rw (after-add (movesOf e s) (moves es t) (s .sp))
+          (same-again (traceLeaves es t .sp) (spAfter (moves es t) (t .sp)) (spAfter (moves es t) (spAfter (movesOf e s) (s .sp)))
+          (rest .same)
+          (same-after (moves es t) (t .sp) (spAfter (movesOf e s) (s .sp)) (facts t (event-kept e s h) .sp) (now .busy)
+          (omega (arith, now .left)) (now .same)));
     }
 
 -- ---- The turn that moves the last word
 
 -- Where a transfer waits it starts with what was last written, else the engine falls idle; either way none waits after it
-record Turned (s t : SpState) : Type 0 where
-  starts : s .full ≡ true → Starts (writtenIn s) t
+record LastTurn (s t : SpState) : Type 0 where
+  starts : s .full ≡ true → Starts (writtenIn s) s t
   ends : s .full ≡ false → t .busy ≡ false
   full : t .full ≡ false
 
-last-turn : (s : SpState) → s .busy ≡ true → s .len ≡ 0 → s .count ≡ 0 → Turned s (spNext s)
+last-turn : (s : SpState) → s .busy ≡ true → s .len ≡ 0 → s .count ≡ 0 → LastTurn s (spNext s)
 unfolding started ended
 last-turn s b l c = go (cases s)
   where
-    go : Case s → Turned s (spNext s)
+    go : Case s → LastTurn s (spNext s)
     go (idle i e) = contradiction b i
     go (inRow i m e) = absurd (omega arith)
     go (endOfRow i m d e) = absurd (omega arith)
@@ -433,14 +650,17 @@ none-written (e ∷ es) p =
 -- The waiting transfer begins in the turn that ends the running one, from what was last written, and once
 pub begins-once : (s : State) (es : List Event) (m : Memory) → Before s es m → BeginsOnce s es m
 begins-once s es m p =
-    let t = leavesAll es s in
+    let t = traceLeaves es s in
     let a = along es s (p .isSound) (p .busy) (omega (arith, p .lastWord)) in
     let z = last (t .sp) (facts t (a .isSound) .sp) .0 (omega (arith, p .lastWord, a .left)) in
-    let k : Turned (t .sp) (spTurn t m .state .sp) = rw (turn-leaves t m (p .taken)) (last-turn (t .sp) (a .busy) (z .0) (z .1)) in
+    let k : LastTurn (t .sp) (spTurn t m .state .sp) = rw (turn-leaves t m (p .taken)) (last-turn (t .sp) (a .busy) (z .0) (z .1)) in
     record {
       noneBegan = a .none;
+      undisturbed = a .same;
       waits = a .full;
-      starts = λ e. rw (← a .written) (k .starts (a .full ∙ e));
+      starts = λ e.
+          let f = a .full ∙ e in
+          rw (← holds-all (lastWritten es (writtenBefore s)) (t .sp) f (trace-written s es (p .isSound) .holds)) (k .starts f);
       ends = λ e. k .ends (a .full ∙ e);
       once = λ fs e.
           omega (arith, begun-at-most fs (spTurn t m .state) (sp-turn-kept t m (a .isSound)), none-written fs e, ap asBit (k .full));
