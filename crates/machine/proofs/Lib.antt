@@ -4,3 +4,4 @@ pub mod Broken
 pub mod Address
 pub mod Refusals
 pub mod Look
+pub mod Calls

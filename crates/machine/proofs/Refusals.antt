@@ -1,14 +1,15 @@
 -- Each number of a declined call is given exactly in its case, and a declined call changes nothing.
-use Prim.Native.Nat.{ℕ, zero, suc}
+use Prim.Native.Nat.{ℕ, zero, suc, _%_, _≤_}
 use mathlib.Core.Path.{_≡_, refl, sym, ap, _∙_}
 use mathlib.Core.Bool.{Bool, true, false, not, _&&_}
+use mathlib.Core.Logic.{_↔_}
 use mathlib.Core.List.{List}
 use native.Mathlib.Omega.{arith}
-use lib.Dec.{eqb}
+use lib.Dec.{leb, eqb}
 use lib.ListN.{length}
-use borrow.Author.Tests.{ne-eqb}
+use borrow.Author.Tests.{leb-true, le-leb, eqb-true, eq-eqb, ne-eqb}
 use Rattle.words.specs.Memory.{Memory}
-use Rattle.words.proofs.Tests.{contradiction, and-true}
+use Rattle.words.proofs.Tests.{contradiction, and-true, true-and, three}
 use Rattle.machine.specs.declared.State.{State}
 use Rattle.machine.specs.declared.Outcome.{Outcome}
 use Rattle.machine.specs.declared.Register.{Register}
@@ -20,6 +21,19 @@ use Rattle.machine.specs.Calls.{readAt, writeAt, readRegister, writeRegi
 use Rattle.machine.specs.Turns.{spTurn, spTurnMemory, dpTurn}
 use Rattle.machine.specs.Runs.{spRun, spRunMemory, dpRun, dpRunOutput}
 use Rattle.machine.specs.Look.{look, empty}
+use Rattle.machine.specs.Accepted.{Gives}
+
+-- ---- The lengths that are allowed
+
+-- A multiple of 8 from 0 to 16,777,216
+pub rdram-length : (n : ℕ) → (rdramAllowed n ≡ true) ↔ ((n % 8 ≡ 0) × (n ≤ 16777216))
+rdram-length n = (
+  (λ e. let p = and-true (eqb (n % 8) 0) (leb n 16777216) e in (eqb-true (n % 8) 0 (p .0), leb-true n 16777216 (p .1))),
+  (λ p. true-and (eqb (n % 8) 0) (leb n 16777216) (eq-eqb (n % 8) 0 (p .0)) (le-leb n 16777216 (p .1))),
+)
+
+pub bank-length : (n : ℕ) → (bankAllowed n ≡ true) ↔ (n ≡ 4096)
+bank-length n = (eqb-true n 4096, eq-eqb n 4096)
 
 -- ---- The numbers
 
@@ -54,11 +68,34 @@ pub dp-number : (s : State) (rdram dmem : List ℕ)
 unfolding dpRefusal
 dp-number s rdram dmem = first-fails (rdramAllowed (length rdram)) (bankAllowed (length dmem)) true (sound s) true
 
+-- What number 0 says of the input
+pub sp-checked : (s : State) (m : Memory) → spRefusal s m ≡ 0 → sound s ≡ true
+sp-checked s m z =
+    let r = rdramAllowed (length (m .rdram)) in
+    let d = bankAllowed (length (m .dmem)) in
+    let i = bankAllowed (length (m .imem)) in
+    let p = and-true (r && d && i && sound s) true (sym (sp-number s m .success) ∙ ap (λ (n : ℕ). eqb n 0) z) in
+    and-true (r && d && i) (sound s) (p .0) .1
+
+pub dp-checked : (s : State) (rdram dmem : List ℕ) → dpRefusal s rdram dmem ≡ 0
+    → (rdramAllowed (length rdram) ≡ true) × (bankAllowed (length dmem) ≡ true) × (sound s ≡ true)
+dp-checked s rdram dmem z =
+    let r = rdramAllowed (length rdram) in
+    let d = bankAllowed (length dmem) in
+    let p = and-true (r && d && true && sound s) true (sym (dp-number s rdram dmem .success) ∙ ap (λ (n : ℕ). eqb n 0) z) in
+    let q = and-true (r && d && true) (sound s) (p .0) in
+    let l = three r d true (q .0) in
+    (l .0, l .1, q .1)
+
 -- ---- What a call gives, by the number of its checks
 
 answers : (n : ℕ) (s : State) (done : Outcome) → (n ≡ 0 → done .answer .number ≡ 0) → Answers n s (unless n (declined s n) done)
 answers zero s done h = record { number = h refl; refused = λ k e. absurd (omega arith) }
 answers (suc n) s done h = record { number = refl; refused = λ k e. refl }
+
+-- A declined call gives its number, value 0, count 0 and the state as handed in
+pub declined-gives : (n : ℕ) (s : State) (o : Outcome) → Answers n s o → (k : ℕ) → n ≡ suc k → Gives o n 0 0 (s .sp) (s .dp)
+declined-gives n s o h k e = rw (h .refused k e) (search)
 
 read-succeeds : (r : Register) (s : State) → isRegister r ≡ true → readAt r s .answer .number ≡ 0
 read-succeeds (Sp r) s e = refl

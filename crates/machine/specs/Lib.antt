@@ -7,3 +7,4 @@ pub mod Runs
 pub mod Look
 pub mod Kept
 pub mod Broken
+pub mod Accepted

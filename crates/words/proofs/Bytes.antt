@@ -1,13 +1,15 @@
 -- The bytes of a stored and of a loaded word.
 use Prim.Native.Nat.{ℕ, zero, suc, _+_, _*_, _%_, _^_, _<_, _≤_}
 use mathlib.Core.Path.{_≡_, refl, sym, ap, _∙_}
-use mathlib.Core.List.{List, [], _∷_}
+use mathlib.Core.Bool.{true}
+use mathlib.Core.Logic.{_↔_}
+use mathlib.Core.List.{List, [], _∷_, map}
 use native.Mathlib.Omega.{arith}
 use native.Mathlib.Nat.{add-zero}
 use lib.ListN.{length, getD, set, length-set, replicate, List·getD-eq-default, getD-replicate}
 use lib.Seq.{sets, getD-set-same, getD-set-other, length-sets}
-use borrow.Author.Tests.{leb-true, leb-false, le-leb}
-use Rattle.words.specs.Memory.{Memory, Place, RDRAM, DMEM, IMEM, bytesOf, withBytes, fitted, bytesAt, loadWord, storeWord, wordValue}
+use borrow.Author.Tests.{leb-true, leb-false, le-leb, lt-leb}
+use Rattle.words.specs.Memory.{Memory, memory, Place, RDRAM, DMEM, IMEM, bytesOf, withBytes, fitted, bytesAt, loadWord, storeWord, wordValue}
 use Rattle.words.proofs.Tests.{either}
 
 -- ---- A byte after several are set
@@ -42,7 +44,8 @@ pub load-length : (l : List ℕ) (a : ℕ) → length (loadWord l a) ≡ 8
 unfolding loadWord
 load-length l a = either (λ (w : List ℕ). length w ≡ 8) (fitted l a) (bytesAt l a) (replicate 8 0) (λ _. bytes-length l a) (λ _. refl)
 
-bytes-at : (l : List ℕ) (a i : ℕ) → i < 8 → getD (bytesAt l a) i 0 ≡ getD l (a + i) 0
+-- Byte i of the eight from an address on
+pub bytes-at : (l : List ℕ) (a i : ℕ) → i < 8 → getD (bytesAt l a) i 0 ≡ getD l (a + i) 0
 unfolding bytesAt
 bytes-at l a zero h = rw add-zero
 bytes-at l a (suc zero) h = refl
@@ -53,6 +56,18 @@ bytes-at l a (suc (suc (suc (suc (suc zero))))) h = refl
 bytes-at l a (suc (suc (suc (suc (suc (suc zero)))))) h = refl
 bytes-at l a (suc (suc (suc (suc (suc (suc (suc zero))))))) h = refl
 bytes-at l a (suc (suc (suc (suc (suc (suc (suc (suc i)))))))) h = absurd (omega arith)
+
+-- A word is fitted where its eight bytes are lent. Otherwise it reads as zeros, and a store there is dropped
+pub fitted-word : (l : List ℕ) (a : ℕ) → (fitted l a ≡ true) ↔ (a + 8 ≤ length l)
+fitted-word l a = (leb-true (a + 8) (length l), le-leb (a + 8) (length l))
+
+pub load-past : (l : List ℕ) (a : ℕ) → length l < a + 8 → loadWord l a ≡ 0 ∷ 0 ∷ 0 ∷ 0 ∷ 0 ∷ 0 ∷ 0 ∷ 0 ∷ []
+unfolding loadWord
+load-past l a h = rw (lt-leb (a + 8) (length l) h)
+
+pub store-past : (l : List ℕ) (a : ℕ) (w : List ℕ) → length l < a + 8 → storeWord l a w ≡ l
+unfolding storeWord
+store-past l a w h = rw (lt-leb (a + 8) (length l) h)
 
 -- A byte of a loaded word is the lent byte, or zero past the lent length. Both are multiples of 8, so no word is fitted in part
 pub load-byte : (l : List ℕ) (a i : ℕ) → length l % 8 ≡ 0 → a % 8 ≡ 0 → i < 8 → getD (loadWord l a) i 0 ≡ getD l (a + i) 0
@@ -96,6 +111,10 @@ unfolding wordValue
 word-value a b c d e f g h = omega arith
 
 -- ---- Places
+
+pub places : (rdram dmem imem : List ℕ)
+    → map (λ (p : Place). bytesOf p (memory rdram dmem imem)) (RDRAM ∷ DMEM ∷ IMEM ∷ []) ≡ rdram ∷ dmem ∷ imem ∷ []
+places rdram dmem imem = refl
 
 pub with-same : (p : Place) (l : List ℕ) (m : Memory) → bytesOf p (withBytes p l m) ≡ l
 with-same RDRAM l m = refl
