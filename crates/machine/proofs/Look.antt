@@ -1,7 +1,7 @@
 -- What a look shows is what the next DP turn would hand out.
-use Prim.Native.Nat.{ℕ, _+_, _%_, _<_, _≤_}
+use Prim.Native.Nat.{ℕ, zero, suc, _+_, _%_, _<_, _≤_}
 use mathlib.Core.Path.{_≡_, refl, sym, ap, _∙_}
-use mathlib.Core.Bool.{Bool, true, false, cond, _&&_, and-false}
+use mathlib.Core.Bool.{Bool, true, false, cond, _&&_, and-false, and-true as and-right}
 use mathlib.Core.List.{List}
 use native.Mathlib.Omega.{arith}
 use lib.Dec.{eqb}
@@ -12,57 +12,69 @@ use Rattle.words.proofs.Tests.{by, and-true, contradiction}
 use Rattle.dp.specs.Turn.{fetches, listBytes, listAddress, listWord}
 use Rattle.dp.proofs.Registers.{list-fetches}
 use Rattle.machine.specs.declared.State.{State}
-use Rattle.machine.specs.declared.Answer.{Answer}
 use Rattle.machine.specs.Refusals.{dpRefusal}
 use Rattle.machine.specs.Turns.{dpTurn}
-use Rattle.machine.specs.Look.{Part, wordAt, empty, shown, look, Looked}
+use Rattle.machine.specs.Look.{Part, rdramWord, dmemWord, rdramEmpty, dmemEmpty, nextWordOf, emptyOf, shown, look, partBytes, Looked}
 use Rattle.machine.specs.Accepted.{Looks}
 use Rattle.machine.proofs.Sound.{facts}
 use Rattle.machine.proofs.Refusals.{rdram-length, bank-length, dp-checked}
 use Rattle.machine.proofs.Calls.{not-running, is-frozen}
 
 module _ (s : State) (rdram dmem : List ℕ) where
-  -- Where the next word stands
-  at : ℕ
-  at = listAddress (s .dp) (s .dp .current)
-
   -- The look's test
   shows : Bool
   shows = eqb (dpRefusal s rdram dmem) 0 && shown (s .dp) rdram dmem
 
-  some : shows ≡ true → look s rdram dmem ≡ wordAt at
-  unfolding look shows at
+  some : shows ≡ true → look s rdram dmem ≡ nextWordOf (s .dp)
+  unfolding look shows
   some e = rw e
 
-  none : shows ≡ false → look s rdram dmem ≡ empty
+  none : shows ≡ false → look s rdram dmem ≡ emptyOf (s .dp)
   unfolding look shows
   none e = rw e
 
-  turn : shows ≡ true
-      → dpTurn s rdram dmem .answer ≡ record { number = 0; value = wordValue (bytesAt (listBytes (s .dp) rdram dmem) at); count = 1 }
-  unfolding dpTurn listWord loadWord shows at
-  turn e =
+  -- Its parts
+  passes : shows ≡ true → (dpRefusal s rdram dmem ≡ 0) × (fetches (s .dp) ≡ true)
+      × (fitted (listBytes (s .dp) rdram dmem) (listAddress (s .dp) (s .dp .current)) ≡ true)
+  unfolding shows
+  passes e =
       let p = and-true (eqb (dpRefusal s rdram dmem) 0) (shown (s .dp) rdram dmem) e in
       let q = and-true (fetches (s .dp)) (fitted (listBytes (s .dp) rdram dmem) (listAddress (s .dp) (s .dp .current))) (p .1) in
-      rw (eqb-true (dpRefusal s rdram dmem) 0 (p .0), q .0, q .1)
+      (eqb-true (dpRefusal s rdram dmem) 0 (p .0), q .0, q .1)
+
+  -- The next turn's count and value where it shows a word
+  counts : shows ≡ true → dpTurn s rdram dmem .answer .count ≡ 1
+  unfolding dpTurn
+  counts e = let p = passes e in rw (p .0, p .1)
+
+  values : shows ≡ true → dpTurn s rdram dmem .answer .value ≡ wordValue (partBytes (nextWordOf (s .dp)) rdram dmem)
+  unfolding dpTurn listWord loadWord
+  values e = let p = passes e in rw (p .0, p .1, p .2) (by-place (s .dp .xbus))
+    where
+      by-place : (x : Bool)
+          → wordValue (bytesAt (cond x dmem rdram) (cond x (s .dp .current % 0x1000) (s .dp .current)))
+          ≡ wordValue (partBytes (cond x (dmemWord (s .dp .current % 0x1000)) (rdramWord (s .dp .current))) rdram dmem)
+      by-place true = refl
+      by-place false = refl
+
+  -- Where it shows none although the word is fitted, the turn hands out nothing
+  misses : shows ≡ false → fitted (listBytes (s .dp) rdram dmem) (listAddress (s .dp) (s .dp .current)) ≡ true
+      → dpTurn s rdram dmem .answer .count ≡ 0
+  unfolding dpTurn shows
+  misses e f = go (dpRefusal s rdram dmem) refl
+    where
+      go : (n : ℕ) → dpRefusal s rdram dmem ≡ n → dpTurn s rdram dmem .answer .count ≡ 0
+      go zero z = let idle : fetches (s .dp) ≡ false = sym (and-right (fetches (s .dp))) ∙ (rw (z, f) at e) in rw (z, idle)
+      go (suc n) z = rw z
 
   pub looked : Looked s rdram dmem
-  unfolding shows at
   looked =
       record {
-        word = λ a e.
-            by shows
-            (λ t. let same : at ≡ a = cc (sym (some t) ∙ e) in (sym same, rw (← same) (turn t)))
-            (λ f. let z : _≡_ {A = ℕ} 0 1 = cc (sym (none f) ∙ e) in absurd (omega arith));
-        nothing = λ z.
-            by shows (λ t. let c : 1 ≡ 0 = sym (ap (λ (a : Answer). a .count) (turn t)) ∙ z in absurd (omega arith)) none;
-        unfitted = λ u.
-            by shows
-            (λ t.
-            let p = and-true (eqb (dpRefusal s rdram dmem) 0) (shown (s .dp) rdram dmem) t in
-            let q = and-true (fetches (s .dp)) (fitted (listBytes (s .dp) rdram dmem) (listAddress (s .dp) (s .dp .current))) (p .1) in
-            contradiction (q .1) u)
-            none;
+        word = λ c f.
+            by shows (λ t. (some t, values t ∙ rw (some t)))
+            (λ e. let z : 1 ≡ 0 = sym c ∙ misses e f in absurd (omega arith));
+        nothing = λ c. by shows (λ t. let z : 1 ≡ 0 = sym (counts t) ∙ c in absurd (omega arith)) none;
+        unfitted = λ u. by shows (λ t. contradiction (passes t .2) u) none;
       }
 
 -- ---- Where it shows a word
@@ -82,7 +94,8 @@ module _ (s : State) (rdram dmem : List ℕ) (z : dpRefusal s rdram dmem ≡ 0) 
   abbrev shownAt : Bool → Part
   shownAt x =
       cond (fetches (s .dp) && fitted (cond x dmem rdram) (cond x (s .dp .current % 4096) (s .dp .current)))
-      (wordAt (cond x (s .dp .current % 4096) (s .dp .current))) empty
+      (cond x (dmemWord (s .dp .current % 4096)) (rdramWord (s .dp .current)))
+      (cond x dmemEmpty rdramEmpty)
 
   look-is : (x : Bool) → s .dp .xbus ≡ x → look s rdram dmem ≡ shownAt x
   unfolding look

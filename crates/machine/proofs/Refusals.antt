@@ -20,7 +20,7 @@ use Rattle.machine.specs.Refusals.{check, rdramAllowed, bankAllowed, isR
 use Rattle.machine.specs.Calls.{readAt, writeAt, readRegister, writeRegister, tick, break, acknowledge}
 use Rattle.machine.specs.Turns.{spTurn, spTurnMemory, dpTurn}
 use Rattle.machine.specs.Runs.{spRun, spRunMemory, dpRun, dpRunOutput}
-use Rattle.machine.specs.Look.{look, empty}
+use Rattle.machine.specs.Look.{look, emptyOf}
 use Rattle.machine.specs.Accepted.{Gives}
 
 -- ---- The lengths that are allowed
@@ -162,6 +162,6 @@ pub dp-run-output : (s : State) (budget : ℕ) (rdram dmem out : List ℕ) (k : 
 unfolding dpRunOutput
 dp-run-output s budget rdram dmem out k e = rw e
 
-pub look-empty : (s : State) (rdram dmem : List ℕ) (k : ℕ) → dpRefusal s rdram dmem ≡ suc k → look s rdram dmem ≡ empty
+pub look-empty : (s : State) (rdram dmem : List ℕ) (k : ℕ) → dpRefusal s rdram dmem ≡ suc k → look s rdram dmem ≡ emptyOf (s .dp)
 unfolding look
 look-empty s rdram dmem k e = rw (e, ne-eqb (suc k) 0 (λ z. absurd (omega arith)))

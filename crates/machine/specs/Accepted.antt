@@ -25,7 +25,7 @@ use Rattle.machine.specs.Address.{registerAt}
 use Rattle.machine.specs.Calls
 use Rattle.machine.specs.Turns.{spTurn, spTurnMemory, dpTurn}
 use Rattle.machine.specs.Runs.{spRun, spRunMemory, dpRun, dpRunOutput}
-use Rattle.machine.specs.Look.{wordAt, empty, look}
+use Rattle.machine.specs.Look.{rdramWord, dmemWord, rdramEmpty, emptyOf, look}
 
 -- An outcome by its five parts
 pub record Gives (o : Outcome) (n v c : ℕ) (x : SpState) (y : DpState) : Type 0 where
@@ -140,10 +140,10 @@ pub record DpRan (s : State) (rdram dmem out : List ℕ) : Type 0 where
 
 pub record Looks (s : State) (rdram dmem : List ℕ) : Type 0 where
   pub inRdram : s .dp .current < s .dp .limit → s .dp .freeze ≡ false → s .dp .xbus ≡ false → s .dp .current < length rdram
-      → look s rdram dmem ≡ wordAt (s .dp .current)
+      → look s rdram dmem ≡ rdramWord (s .dp .current)
   -- In DMEM every word is fitted
   pub inDmem : s .dp .current < s .dp .limit → s .dp .freeze ≡ false → s .dp .xbus ≡ true
-      → look s rdram dmem ≡ wordAt (s .dp .current % 4096)
-  pub noList : s .dp .limit ≤ s .dp .current → look s rdram dmem ≡ empty
-  pub frozen : s .dp .freeze ≡ true → look s rdram dmem ≡ empty
-  pub unfitted : s .dp .xbus ≡ false → length rdram ≤ s .dp .current → look s rdram dmem ≡ empty
+      → look s rdram dmem ≡ dmemWord (s .dp .current % 4096)
+  pub noList : s .dp .limit ≤ s .dp .current → look s rdram dmem ≡ emptyOf (s .dp)
+  pub frozen : s .dp .freeze ≡ true → look s rdram dmem ≡ emptyOf (s .dp)
+  pub unfitted : s .dp .xbus ≡ false → length rdram ≤ s .dp .current → look s rdram dmem ≡ rdramEmpty
