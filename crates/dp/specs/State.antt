@@ -1,6 +1,6 @@
 -- The DP registers at power-up, and with one group of them replaced.
 use Prim.Native.Nat.{ℕ}
-use mathlib.Core.Bool.{Bool, true, false}
+use mathlib.Core.Bool.{Bool, false}
 use Rattle.dp.specs.declared.DpState.{DpState}
 
 abbrev pub dpPowerUp : DpState

@@ -1,9 +1,8 @@
 -- What holds along a series of turns, from the outset on. With it a DP turn does and gives what it would over the memory of the outset.
-use Prim.Native.Nat.{ℕ, _<_, _≤_}
+use Prim.Native.Nat.{ℕ}
 use mathlib.Core.Path.{_≡_, refl, sym, ap, _∙_}
 use mathlib.Core.Bool.{Bool, true, false, not, _&&_}
 use mathlib.Core.List.{List, [], List·Memᴰ, List·Memᴰ·head, List·Memᴰ·tail}
-use native.Mathlib.Omega.{arith}
 use borrow.Author.Tests.{ltb-true}
 use Rattle.words.specs.Memory.{Memory, RDRAM, DMEM}
 use Rattle.words.proofs.Tests.{by, and-true, true-and}
@@ -11,7 +10,6 @@ use Rattle.sp.specs.Turn.{spMove}
 use Rattle.sp.proofs.Turn.{move-length}
 use Rattle.sp.proofs.Kept.{next-kept}
 use Rattle.dp.specs.declared.DpState.{DpState}
-use Rattle.dp.specs.Sound.{DpSound}
 use Rattle.dp.specs.Lists.{runs}
 use Rattle.dp.specs.Turn.{fetches, listWord, nextListWord, fetched, dpStep}
 use Rattle.dp.specs.Listed.{toFetch}

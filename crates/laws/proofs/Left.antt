@@ -1,7 +1,7 @@
 -- Words left and words yet to fetch, of the calls: when the SP engine falls idle, and what runs leave and answer.
-use Prim.Native.Nat.{ℕ, _/_, min}
+use Prim.Native.Nat.{ℕ, min}
 use mathlib.Core.Path.{_≡_, sym, _∙_}
-use mathlib.Core.Bool.{true, cond}
+use mathlib.Core.Bool.{true}
 use mathlib.Core.List.{List}
 use native.Mathlib.Nat.{min-zero}
 use lib.ListN.{length}

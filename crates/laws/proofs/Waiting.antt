@@ -29,7 +29,7 @@ use Rattle.machine.specs.declared.Register.{Register}
 use Rattle.machine.specs.declared.Register.the-variants.{Sp, Dp, Unmapped}
 use Rattle.machine.specs.Sound.{powerUp, withSp, sound}
 use Rattle.machine.specs.Address.{registerAt, addresses}
-use Rattle.machine.specs.Refusals.{check, isRegister, accessRefusal, stateRefusal, spRefusal, dpRefusal, accepted, declined, unless}
+use Rattle.machine.specs.Refusals.{check, isRegister, accessRefusal, stateRefusal, spRefusal, dpRefusal, accepted, declined, ifRefused}
 use Rattle.machine.specs.Calls.{readAt, writeAt, readRegister, writeRegister, tick, break, acknowledge}
 use Rattle.machine.specs.Turns.{spTurn, dpTurn}
 use Rattle.machine.specs.Runs.{spRun, dpRun}
@@ -108,7 +108,7 @@ write-leaves : (s : State) (a v : ℕ) → sound s ≡ true → writeRegister s 
 unfolding writeRegister accessRefusal
 write-leaves s a v e = rw e (at (registerAt a))
   where
-    at : (r : Register) → unless (check (isRegister r) 5 0) (declined s (check (isRegister r) 5 0)) (writeAt r s v) .state .sp ≡ spWritten r (s .sp) v
+    at : (r : Register) → ifRefused (check (isRegister r) 5 0) (declined s (check (isRegister r) 5 0)) (writeAt r s v) .state .sp ≡ spWritten r (s .sp) v
     at (Sp r) = refl
     at (Dp r) = refl
     at Unmapped = refl
@@ -172,7 +172,7 @@ read-still Unmapped s = nothing (s .sp)
 
 -- A call that may be declined
 quiet : (n : ℕ) (s : State) (done : Outcome) → Still (s .sp) (done .state .sp) (λ w. w)
-    → Still (s .sp) (unless n (declined s n) done .state .sp) (λ w. w)
+    → Still (s .sp) (ifRefused n (declined s n) done .state .sp) (λ w. w)
 quiet n s done h = either-way (λ t. Still (s .sp) (t .sp) (λ w. w)) n s done (nothing (s .sp)) h
 
 -- A write that starts or queues no transfer, by its register
@@ -226,7 +226,7 @@ turn-moves : (s : State) (m : Memory) → spTurn s m .state .sp ≡ spAfter (asB
 unfolding spTurn spAfter
 turn-moves s m = at (spRefusal s m)
   where
-    at : (n : ℕ) → unless n (declined s n) (accepted (withSp s (spNext (s .sp))) 0 (asBit (s .sp .busy))) .state .sp ≡ spAfter (asBit (eqb n 0)) (s .sp)
+    at : (n : ℕ) → ifRefused n (declined s n) (accepted (withSp s (spNext (s .sp))) 0 (asBit (s .sp .busy))) .state .sp ≡ spAfter (asBit (eqb n 0)) (s .sp)
     at zero = refl
     at (suc n) = rw (ne-eqb (suc n) 0 (λ z. absurd (omega arith)))
 
@@ -235,7 +235,7 @@ unfolding spRun spAfter
 run-moves s budget m = at (spRefusal s m) (spTaken budget (s .sp))
   where
     run : ℕ → ℕ → Outcome
-    run n k = unless n (declined s n) (accepted (withSp s (spAfter k (s .sp))) 0 k)
+    run n k = ifRefused n (declined s n) (accepted (withSp s (spAfter k (s .sp))) 0 k)
 
     at : (n k : ℕ) → run n k .state .sp ≡ spAfter (run n k .answer .count) (s .sp)
     at zero k = refl

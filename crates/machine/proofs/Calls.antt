@@ -1,16 +1,14 @@
 -- What a call gives that is not declined, call by call.
 use Prim.Native.Nat.{ℕ, zero, suc, _+_, _-_, _*_, _/_, _%_, _<_, _≤_, min}
-use mathlib.Core.Path.{_≡_, refl, sym, ap, _∙_}
+use mathlib.Core.Path.{_≡_, refl, ap, _∙_}
 use mathlib.Core.Bool.{Bool, true, false, not, cond, _&&_, _||_, and-false}
-use mathlib.Core.List.{List, [], _∷_, _++_, append-assoc}
+use mathlib.Core.List.{List, _++_, append-assoc}
 use native.Mathlib.Omega.{arith}
 use native.Mathlib.Nat.{zero-min}
-use lib.Dec.{eqb}
 use lib.ListN.{length, drop, length-drop}
 use lib.Seq.{drop-drop}
 use borrow.Author.Tests.{le-ltb}
 use Rattle.words.specs.Memory.{Memory, loadWord, wordValue, RDRAM, DMEM, IMEM}
-use Rattle.words.proofs.Tests.{by, and-true, contradiction}
 use Rattle.sp.specs.declared.SpRegister.{SpRegister}
 use Rattle.sp.specs.declared.SpRegister.the-variants.{Semaphore}
 use Rattle.sp.specs.Registers.{spRead}
@@ -18,17 +16,15 @@ use Rattle.sp.specs.Turn.{spNext, spMove, spAfter, memoryAfter, spTaken}
 use Rattle.sp.proofs.Registers.{other-reads}
 use Rattle.sp.proofs.Turn.{next-idle, move-idle, move-length}
 use Rattle.dp.specs.declared.DpState.{DpState}
-use Rattle.dp.specs.declared.DpRegister.{DpRegister}
 use Rattle.dp.specs.Lists.{runs}
 use Rattle.dp.specs.Turn.{fetches, listWord, dpNext, nextListWord, dpStep, dpAfter, handedOut, dpTaken, roomFor}
 use Rattle.dp.proofs.Registers.{list-fetches}
 use Rattle.dp.proofs.Listed.{next-still, taken-more, taken-none}
 use Rattle.machine.specs.declared.State.{State}
-use Rattle.machine.specs.declared.Outcome.{Outcome}
-use Rattle.machine.specs.declared.Register.the-variants.{Sp, Dp}
+use Rattle.machine.specs.declared.Register.the-variants.{Sp}
 use Rattle.machine.specs.Sound.{withSp, withDp, sound}
 use Rattle.machine.specs.Address.{registerAt}
-use Rattle.machine.specs.Refusals.{stateRefusal, accessRefusal, spRefusal, dpRefusal, declined, accepted, unless}
+use Rattle.machine.specs.Refusals.{stateRefusal, accessRefusal, spRefusal, dpRefusal}
 use Rattle.machine.specs.Calls.{readRegister, writeRegister, tick, break, acknowledge}
 use Rattle.machine.specs.Turns.{spTurn, spTurnMemory, dpTurn}
 use Rattle.machine.specs.Runs.{spRun, spRunMemory, dpRunTaken, dpRun, dpRunOutput}

@@ -21,7 +21,7 @@ use Rattle.machine.specs.declared.Register.{Register}
 use Rattle.machine.specs.declared.Register.the-variants.{Sp, Dp, Unmapped}
 use Rattle.machine.specs.Sound.{withSp, withDp, sound}
 use Rattle.machine.specs.Address.{registerAt}
-use Rattle.machine.specs.Refusals.{stateRefusal, accessRefusal, spRefusal, dpRefusal, accepted, declined, unless}
+use Rattle.machine.specs.Refusals.{stateRefusal, accessRefusal, spRefusal, dpRefusal, accepted, declined, ifRefused}
 use Rattle.machine.specs.Calls.{readAt, writeAt, readRegister, writeRegister, tick, break, acknowledge}
 use Rattle.machine.specs.Turns.{spTurn, dpTurn}
 use Rattle.machine.specs.Runs.{spRun, dpRunTaken, dpRun}
@@ -29,11 +29,11 @@ use Rattle.machine.specs.Kept.{Kept}
 use Rattle.machine.proofs.Sound.{facts, test}
 
 -- A declined call leaves the state as it was: what holds of that and of the state after the call holds of the outcome's
-pub either-way : (P : State → Type 0) (n : ℕ) (s : State) (done : Outcome) → P s → P (done .state) → P (unless n (declined s n) done .state)
+pub either-way : (P : State → Type 0) (n : ℕ) (s : State) (done : Outcome) → P s → P (done .state) → P (ifRefused n (declined s n) done .state)
 either-way P zero s done h k = k
 either-way P (suc n) s done h k = h
 
-kept : (n : ℕ) (s : State) (done : Outcome) → sound s ≡ true → sound (done .state) ≡ true → sound (unless n (declined s n) done .state) ≡ true
+kept : (n : ℕ) (s : State) (done : Outcome) → sound s ≡ true → sound (done .state) ≡ true → sound (ifRefused n (declined s n) done .state) ≡ true
 kept = either-way (λ t. sound t ≡ true)
 
 -- The registers of one engine are replaced

@@ -1,7 +1,7 @@
 -- Each number of a declined call is given exactly in its case, and a declined call changes nothing.
 use Prim.Native.Nat.{ℕ, zero, suc, _%_, _≤_}
 use mathlib.Core.Path.{_≡_, refl, sym, ap, _∙_}
-use mathlib.Core.Bool.{Bool, true, false, not, _&&_}
+use mathlib.Core.Bool.{Bool, true, false, _&&_}
 use mathlib.Core.Logic.{_↔_}
 use mathlib.Core.List.{List}
 use native.Mathlib.Omega.{arith}
@@ -16,7 +16,7 @@ use Rattle.machine.specs.declared.Register.{Register}
 use Rattle.machine.specs.declared.Register.the-variants.{Sp, Dp, Unmapped}
 use Rattle.machine.specs.Sound.{sound}
 use Rattle.machine.specs.Address.{registerAt}
-use Rattle.machine.specs.Refusals.{check, rdramAllowed, bankAllowed, isRegister, stateRefusal, accessRefusal, spRefusal, dpRefusal, declined, unless, Given, Answers}
+use Rattle.machine.specs.Refusals.{check, rdramAllowed, bankAllowed, isRegister, stateRefusal, accessRefusal, spRefusal, dpRefusal, declined, ifRefused, Given, Answers}
 use Rattle.machine.specs.Calls.{readAt, writeAt, readRegister, writeRegister, tick, break, acknowledge}
 use Rattle.machine.specs.Turns.{spTurn, spTurnMemory, dpTurn}
 use Rattle.machine.specs.Runs.{spRun, spRunMemory, dpRun, dpRunOutput}
@@ -89,7 +89,7 @@ dp-checked s rdram dmem z =
 
 -- ---- What a call gives, by the number of its checks
 
-answers : (n : ℕ) (s : State) (done : Outcome) → (n ≡ 0 → done .answer .number ≡ 0) → Answers n s (unless n (declined s n) done)
+answers : (n : ℕ) (s : State) (done : Outcome) → (n ≡ 0 → done .answer .number ≡ 0) → Answers n s (ifRefused n (declined s n) done)
 answers zero s done h = record { number = h refl; refused = λ k e. absurd (omega arith) }
 answers (suc n) s done h = record { number = refl; refused = λ k e. refl }
 

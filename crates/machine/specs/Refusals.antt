@@ -60,10 +60,10 @@ accepted s value count = record { state = s; answer = record { number = 0; value
 abbrev pub declined : State → ℕ → Outcome
 declined s number = record { state = s; answer = record { number = number; value = 0; count = 0 } }
 
--- What a call gives: the outcome where no check fails, else declined
-abbrev pub unless : {A : Type 0} → ℕ → A → A → A
-unless zero refused done = done
-unless (suc n) refused done = refused
+-- By the number of a call's checks: where one failed the first of two, else the second
+abbrev pub ifRefused : {A : Type 0} → ℕ → A → A → A
+ifRefused zero refused done = done
+ifRefused (suc n) refused done = refused
 
 -- ---- What is proved of the numbers and of declined calls
 
