@@ -1,25 +1,21 @@
--- What a call gives that is not declined, call by call.
-use Prim.Native.Nat.{ℕ, zero, suc, _+_, _-_, _*_, _/_, _%_, _<_, _≤_, min}
+-- What a register access, a tick, a BREAK, an acknowledge or a turn gives that is not declined.
+use Prim.Native.Nat.{ℕ, _%_, _<_, _≤_}
 use mathlib.Core.Path.{_≡_, refl, ap, _∙_}
 use mathlib.Core.Bool.{Bool, true, false, not, cond, _&&_, _||_, and-false}
-use mathlib.Core.List.{List, _++_, append-assoc}
-use native.Mathlib.Omega.{arith}
-use native.Mathlib.Nat.{zero-min}
-use lib.ListN.{length, drop, length-drop}
-use lib.Seq.{drop-drop}
+use mathlib.Core.List.{List}
 use borrow.Author.Tests.{le-ltb}
-use Rattle.words.specs.Memory.{Memory, loadWord, wordValue, RDRAM, DMEM, IMEM}
+use Rattle.words.specs.Memory.{Memory, loadWord, wordValue}
 use Rattle.sp.specs.declared.SpRegister.{SpRegister}
 use Rattle.sp.specs.declared.SpRegister.the-variants.{Semaphore}
 use Rattle.sp.specs.Registers.{spRead}
-use Rattle.sp.specs.Turn.{spNext, spMove, spAfter, memoryAfter, spTaken}
+use Rattle.sp.specs.Turn.{spNext, spMove}
 use Rattle.sp.proofs.Registers.{other-reads}
-use Rattle.sp.proofs.Turn.{next-idle, move-idle, move-length}
+use Rattle.sp.proofs.Turn.{next-idle, move-idle}
 use Rattle.dp.specs.declared.DpState.{DpState}
 use Rattle.dp.specs.Lists.{runs}
-use Rattle.dp.specs.Turn.{fetches, listWord, dpNext, nextListWord, dpStep, dpAfter, handedOut, dpTaken, roomFor}
+use Rattle.dp.specs.Turn.{fetches, listWord, dpNext, nextListWord, dpStep}
 use Rattle.dp.proofs.Registers.{list-fetches}
-use Rattle.dp.proofs.Listed.{next-still, taken-more, taken-none}
+use Rattle.dp.proofs.Listed.{next-still}
 use Rattle.machine.specs.declared.State.{State}
 use Rattle.machine.specs.declared.Register.the-variants.{Sp}
 use Rattle.machine.specs.Sound.{withSp, withDp, sound}
@@ -27,10 +23,7 @@ use Rattle.machine.specs.Address.{registerAt}
 use Rattle.machine.specs.Refusals.{stateRefusal, accessRefusal, spRefusal, dpRefusal}
 use Rattle.machine.specs.Calls.{readRegister, writeRegister, tick, break, acknowledge}
 use Rattle.machine.specs.Turns.{spTurn, spTurnMemory, dpTurn}
-use Rattle.machine.specs.Runs.{spRun, spRunMemory, dpRunTaken, dpRun, dpRunOutput}
-use Rattle.machine.specs.Accepted.{Gives, Still, Accesses, Signals, SpTurned, currentWord, DpTurned, OneMore, SpRan, dpRest, dpRestOutput, DpRan}
-use Rattle.machine.proofs.Kept.{sp-turn-kept, dp-turn-kept}
-use Rattle.machine.proofs.Refusals.{sp-checked, dp-checked}
+use Rattle.machine.specs.Accepted.{Gives, Still, Accesses, Signals, SpTurned, currentWord, DpTurned}
 
 -- ---- Register accesses
 
@@ -66,14 +59,14 @@ module _ (s : State) (h : sound s ≡ true) where
     acknowledge = rw h (search);
   }
 
--- ---- SP turns and runs
+-- ---- SP turns
 
 module _ (s : State) (m : Memory) (z : spRefusal s m ≡ 0) where
-  turn-state : spTurn s m .state ≡ withSp s (spNext (s .sp))
+  pub turn-state : spTurn s m .state ≡ withSp s (spNext (s .sp))
   unfolding spTurn
   turn-state = rw z
 
-  turn-memory : spTurnMemory s m ≡ spMove (s .sp) m
+  pub turn-memory : spTurnMemory s m ≡ spMove (s .sp) m
   unfolding spTurnMemory
   turn-memory = rw z
 
@@ -84,34 +77,7 @@ module _ (s : State) (m : Memory) (z : spRefusal s m ≡ 0) where
     idle = λ b. (rw (z, next-idle (s .sp) b, b) (search), rw (z, move-idle (s .sp) m b));
   }
 
-  -- The next call is accepted too
-  again : spRefusal (withSp s (spNext (s .sp))) (spMove (s .sp) m) ≡ 0
-  unfolding spRefusal
-  again =
-      let h = sp-checked s m z in
-      let k : sound (withSp s (spNext (s .sp))) ≡ true = rw turn-state at (sp-turn-kept s m h) in
-      rw (move-length (s .sp) m RDRAM, move-length (s .sp) m DMEM, move-length (s .sp) m IMEM, k) (rw h at z)
-
-  none-taken : (budget : ℕ) → s .sp .busy ≡ false → spTaken budget (s .sp) ≡ 0
-  unfolding spTaken
-  none-taken zero b = refl
-  none-taken (suc budget) b = rw b
-
-  one-taken : (budget : ℕ) → s .sp .busy ≡ true → spTaken (suc budget) (s .sp) ≡ suc (spTaken budget (spNext (s .sp)))
-  unfolding spTaken
-  one-taken budget b = rw b
-
-  pub sp-ran : SpRan s m
-  unfolding spRun spRunMemory spTaken spAfter memoryAfter
-  sp-ran = record {
-    noBudget = (rw z (search), rw z);
-    idle = λ budget b. (rw (z, none-taken budget b) (search), rw (z, none-taken budget b));
-    turn = λ budget b.
-        let e = one-taken budget b in
-        (rw (z, turn-state, turn-memory, again, e) (search), rw (z, turn-state, turn-memory, again, e));
-  }
-
--- ---- DP turns and runs
+-- ---- DP turns
 
 -- A turn fetches no word
 pub not-running : (s : DpState) → s .limit ≤ s .current → fetches s ≡ false
@@ -121,7 +87,7 @@ pub is-frozen : (s : DpState) → s .freeze ≡ true → fetches s ≡ false
 is-frozen s f = ap (λ (b : Bool). runs s && not b) f ∙ and-false (runs s)
 
 -- The word that a turn fetches
-word-is : (s : DpState) (rdram dmem : List ℕ) → nextListWord s rdram dmem ≡ currentWord s rdram dmem
+pub word-is : (s : DpState) (rdram dmem : List ℕ) → nextListWord s rdram dmem ≡ currentWord s rdram dmem
 unfolding listWord
 word-is s rdram dmem = selected (s .xbus)
   where
@@ -130,31 +96,9 @@ word-is s rdram dmem = selected (s .xbus)
     selected true = refl
     selected false = refl
 
--- Room for one word
-room-none : (budget n : ℕ) → n < 8 → min budget (n / 8) ≡ 0
-room-none budget n h = omega arith
-
-room-one : (budget n : ℕ) → 8 ≤ n → min (suc budget) (n / 8) ≡ suc (min budget ((n - 8) / 8))
-room-one budget n h = omega arith
-
--- A run takes no turn
-none-fetched : (n : ℕ) (s : DpState) (rdram dmem : List ℕ) → fetches s ≡ false → dpTaken n s rdram dmem ≡ 0
-unfolding dpTaken
-none-fetched zero s rdram dmem f = refl
-none-fetched (suc n) s rdram dmem f = taken-none n s rdram dmem f
-
--- The output after n words and one before them
-one-before : (n : ℕ) (word words out : List ℕ) → word ++ words ++ drop (8 * suc n) out ≡ word ++ (words ++ drop (8 * n) (drop 8 out))
-one-before n word words out =
-    let e : 8 * suc n ≡ 8 + 8 * n = omega arith in
-    rw (e, ← drop-drop (8 * n) 8 out) (append-assoc word words (drop (8 * n) (drop 8 out)))
-
 module _ (s : State) (rdram dmem : List ℕ) (z : dpRefusal s rdram dmem ≡ 0) where
-  step : State
-  step = withDp s (dpStep (s .dp) rdram dmem)
-
-  dp-turn-state : dpTurn s rdram dmem .state ≡ step
-  unfolding dpTurn step
+  pub dp-turn-state : dpTurn s rdram dmem .state ≡ withDp s (dpStep (s .dp) rdram dmem)
+  unfolding dpTurn
   dp-turn-state = rw z
 
   still : fetches (s .dp) ≡ false → Still s (dpTurn s rdram dmem)
@@ -171,47 +115,4 @@ module _ (s : State) (rdram dmem : List ℕ) (z : dpRefusal s rdram dmem ≡ 0) 
     fetches = fetched-word;
     noList = λ r. still (not-running (s .dp) r);
     frozen = λ f. still (is-frozen (s .dp) f);
-  }
-
-  dp-again : dpRefusal step rdram dmem ≡ 0
-  unfolding dpRefusal step
-  dp-again =
-      let h = dp-checked s rdram dmem z .2 in
-      let k : sound step ≡ true = rw dp-turn-state at (dp-turn-kept s rdram dmem h) in
-      rw k (rw h at z)
-
-  -- A run into an output takes no turn, or one and then the rest
-  module _ (budget : ℕ) (out : List ℕ) where
-    no-turn : dpRunTaken s budget rdram dmem out ≡ 0 → Still s (dpRun s budget rdram dmem out) × (dpRunOutput s budget rdram dmem out ≡ out)
-    unfolding dpRun dpRunOutput dpAfter handedOut
-    no-turn e = (rw (z, e) (search), rw (z, e))
-
-    first-turn : 8 ≤ length out → fetches (s .dp) ≡ true
-        → dpRunTaken s (suc budget) rdram dmem out ≡ suc (dpRunTaken step budget rdram dmem (drop 8 out))
-    unfolding step
-    first-turn l f =
-        ap (λ (n : ℕ). dpTaken n (s .dp) rdram dmem) (room-one budget (length out) l)
-        ∙ taken-more (min budget ((length out - 8) / 8)) (s .dp) rdram dmem f
-        ∙ rw (length-drop 8 out)
-
-    one-turn : 8 ≤ length out → fetches (s .dp) ≡ true
-        → OneMore (dpRun s (suc budget) rdram dmem out) (dpRest s budget rdram dmem out)
-        × (dpRunOutput s (suc budget) rdram dmem out ≡ nextListWord (s .dp) rdram dmem ++ dpRestOutput s budget rdram dmem out)
-    unfolding dpRun dpRunOutput dpAfter handedOut step
-    one-turn l f =
-        let e = first-turn l f in
-        let n = dpRunTaken step budget rdram dmem (drop 8 out) in
-        let words = handedOut n (step .dp) rdram dmem in (
-          rw (z, dp-turn-state, dp-again, e) (search),
-          rw (z, dp-turn-state, dp-again, e) (one-before n (nextListWord (s .dp) rdram dmem) words out),
-        )
-
-  pub dp-ran : (out : List ℕ) → DpRan s rdram dmem out
-  unfolding dpTaken
-  dp-ran out = record {
-    noBudget = no-turn 0 out (ap (λ (n : ℕ). dpTaken n (s .dp) rdram dmem) (zero-min (length out / 8)));
-    noRoom = λ budget l. no-turn budget out (ap (λ (n : ℕ). dpTaken n (s .dp) rdram dmem) (room-none budget (length out) l));
-    noList = λ budget r. no-turn budget out (none-fetched (roomFor budget out) (s .dp) rdram dmem (not-running (s .dp) r));
-    frozen = λ budget f. no-turn budget out (none-fetched (roomFor budget out) (s .dp) rdram dmem (is-frozen (s .dp) f));
-    turn = λ budget l r f. rw (← word-is (s .dp) rdram dmem) (one-turn budget out l (list-fetches (s .dp) r f));
   }

@@ -1,7 +1,8 @@
 pub mod Sound
-pub mod Kept
-pub mod Broken
 pub mod Address
 pub mod Refusals
-pub mod Look
 pub mod Calls
+pub mod Look
+pub mod Broken
+pub mod Kept
+pub mod Runs
