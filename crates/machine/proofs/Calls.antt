@@ -31,7 +31,7 @@ module _ (s : State) (h : sound s ≡ true) where
   read-sp : (a : ℕ) (r : SpRegister) → registerAt a ≡ Sp r → (r ≡ Semaphore → ⊥)
       → Gives (readRegister s a) 0 (spRead r (s .sp)) 0 (s .sp) (s .dp)
   unfolding readRegister accessRefusal
-  read-sp a r e n = rw (h, e, other-reads r (s .sp) n) (search)
+  read-sp a r e n = rw (h, e) (search (other-reads r (s .sp) n))
 
   pub accesses : Accesses s
   unfolding readRegister writeRegister accessRefusal registerAt
