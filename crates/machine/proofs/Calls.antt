@@ -23,7 +23,7 @@ use Rattle.machine.specs.Address.{registerAt}
 use Rattle.machine.specs.Refusals.{stateRefusal, accessRefusal, spRefusal, dpRefusal}
 use Rattle.machine.specs.Calls.{readRegister, writeRegister, tick, break, acknowledge}
 use Rattle.machine.specs.Turns.{spTurn, spTurnMemory, dpTurn}
-use Rattle.machine.specs.Accepted.{Gives, Still, Accesses, Signals, SpTurned, currentWord, DpTurned}
+use Rattle.machine.specs.Accepted.{Gives, Still, Accesses, Events, SpTurned, currentWord, DpTurned}
 
 -- ---- Register accesses
 
@@ -51,9 +51,9 @@ module _ (s : State) (h : sound s ≡ true) where
   line-set false true = refl
   line-set false false = refl
 
-  pub signals : Signals s
+  pub events : Events s
   unfolding tick break acknowledge stateRefusal
-  signals = record {
+  events = record {
     tick = λ n. rw h (search);
     break = rw h (search line-set);
     acknowledge = rw h (search);

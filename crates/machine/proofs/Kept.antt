@@ -3,7 +3,6 @@ use Prim.Native.Nat.{ℕ, zero, suc, _<_}
 use mathlib.Core.Path.{_≡_}
 use mathlib.Core.Bool.{true}
 use mathlib.Core.List.{List}
-use Rattle.words.specs.Bits.{asBit}
 use Rattle.words.specs.Memory.{Memory}
 use Rattle.sp.specs.declared.SpState.{SpState}
 use Rattle.sp.specs.Sound.{SpSound}
@@ -89,7 +88,7 @@ acknowledge-kept s e =
 pub sp-turn-kept : (s : State) (m : Memory) → sound s ≡ true → sound (spTurn s m .state) ≡ true
 unfolding spTurn
 sp-turn-kept s m e =
-    kept (spRefusal s m) s (accepted (withSp s (spNext (s .sp))) 0 (asBit (s .sp .busy))) e
+    kept (spRefusal s m) s (accepted (withSp s (spNext (s .sp))) _ _) e
     (sp-kept s (spNext (s .sp)) (SpKept.next-kept (s .sp)) e)
 
 pub dp-turn-kept : (s : State) (rdram dmem : List ℕ) → sound s ≡ true → sound (dpTurn s rdram dmem .state) ≡ true

@@ -9,6 +9,7 @@ use lib.ListN.{length, drop, length-drop}
 use lib.Seq.{drop-drop}
 use Rattle.words.specs.Memory.{Memory, RDRAM, DMEM, IMEM}
 use Rattle.sp.specs.Turn.{spNext, spMove, spAfter, memoryAfter, spTaken}
+use Rattle.sp.proofs.Left.{taken-busy, taken-idle}
 use Rattle.sp.proofs.Turn.{move-length}
 use Rattle.dp.specs.declared.DpState.{DpState}
 use Rattle.dp.specs.Turn.{fetches, nextListWord, dpStep, dpAfter, handedOut, dpTaken, roomFor}
@@ -34,22 +35,13 @@ module _ (s : State) (m : Memory) (z : spRefusal s m ≡ 0) where
       let k : sound (withSp s (spNext (s .sp))) ≡ true = rw (turn-state s m z) at (sp-turn-kept s m h) in
       rw (move-length (s .sp) m RDRAM, move-length (s .sp) m DMEM, move-length (s .sp) m IMEM, k) (rw h at z)
 
-  none-taken : (budget : ℕ) → s .sp .busy ≡ false → spTaken budget (s .sp) ≡ 0
-  unfolding spTaken
-  none-taken zero b = refl
-  none-taken (suc budget) b = rw b
-
-  one-taken : (budget : ℕ) → s .sp .busy ≡ true → spTaken (suc budget) (s .sp) ≡ suc (spTaken budget (spNext (s .sp)))
-  unfolding spTaken
-  one-taken budget b = rw b
-
   pub sp-ran : SpRan s m
   unfolding spRun spRunMemory spTaken spAfter memoryAfter
   sp-ran = record {
     noBudget = (rw z (search), rw z);
-    idle = λ budget b. (rw (z, none-taken budget b) (search), rw (z, none-taken budget b));
+    idle = λ budget b. (rw (z, taken-idle budget (s .sp) b) (search), rw (z, taken-idle budget (s .sp) b));
     turn = λ budget b.
-        let e = one-taken budget b in
+        let e = taken-busy budget (s .sp) b in
         (rw (z, turn-state s m z, turn-memory s m z, again, e) (search), rw (z, turn-state s m z, turn-memory s m z, again, e));
   }
 

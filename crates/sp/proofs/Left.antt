@@ -90,11 +90,11 @@ busy-left k s h =
 
 -- ---- Runs
 
-taken-busy : (b : ℕ) (s : SpState) → s .busy ≡ true → spTaken (suc b) s ≡ suc (spTaken b (spNext s))
+pub taken-busy : (b : ℕ) (s : SpState) → s .busy ≡ true → spTaken (suc b) s ≡ suc (spTaken b (spNext s))
 unfolding spTaken
 taken-busy b s e = rw e
 
-taken-idle : (b : ℕ) (s : SpState) → s .busy ≡ false → spTaken b s ≡ 0
+pub taken-idle : (b : ℕ) (s : SpState) → s .busy ≡ false → spTaken b s ≡ 0
 unfolding spTaken
 taken-idle zero s e = refl
 taken-idle (suc b) s e = rw e
