@@ -42,7 +42,7 @@ bytes-length l a = refl
 
 pub load-length : (l : List ℕ) (a : ℕ) → length (loadWord l a) ≡ 8
 unfolding loadWord
-load-length l a = either (λ (w : List ℕ). length w ≡ 8) (fitted l a) (bytesAt l a) (replicate 8 0) (λ _. bytes-length l a) (λ _. refl)
+load-length l a = either (λ (w : List ℕ). length w ≡ 8) (fitted l a) (bytesAt l a) _ (λ _. bytes-length l a) (λ _. refl)
 
 -- Byte i of the eight from an address on
 pub bytes-at : (l : List ℕ) (a i : ℕ) → i < 8 → getD (bytesAt l a) i 0 ≡ getD l (a + i) 0
