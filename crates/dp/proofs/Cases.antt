@@ -1,19 +1,32 @@
--- The cases of a turn that fetches a word, and those of an END and of a STATUS write.
+-- When a turn fetches a word, the cases of such a turn, and those of an END and of a STATUS write.
 use Prim.Native.Nat.{ℕ, _+_, _%_, _<_, _≤_}
-use mathlib.Core.Path.{_≡_, refl}
-use mathlib.Core.Bool.{Bool, true, false, not, cond, _&&_, _||_}
+use mathlib.Core.Path.{_≡_, refl, ap, _∙_}
+use mathlib.Core.Bool.{Bool, true, false, not, cond, _&&_, _||_, and-false}
 use mathlib.Core.List.{List}
 use native.Mathlib.Omega.{arith}
 use native.Mathlib.Nat.{mod-eq-of-lt, not-le-of-lt}
 use lib.Dec.{ltb}
 use borrow.Author.Tests.{not-true, ltb-true, ltb-false}
 use Rattle.words.specs.Bits.{ramAdd}
-use Rattle.words.proofs.Tests.{by, either, and-true, contradiction}
+use Rattle.words.proofs.Tests.{by, either, and-true, true-and, contradiction}
 use Rattle.dp.specs.declared.DpState.{DpState}
 use Rattle.dp.specs.Sound.{DpSound}
 use Rattle.dp.specs.Lists.{runs, listStarted, limitMoved, withEnd, endWritten, waitingStarted}
 use Rattle.dp.specs.Registers.{modesWritten, flushed, setsFlush, dpStatusWritten}
-use Rattle.dp.specs.Turn.{framed, advanced, followed, fetched}
+use Rattle.dp.specs.Turn.{fetches, framed, advanced, followed, fetched}
+
+-- ---- When a turn fetches
+
+pub fetch-on : (s : DpState) → s .freeze ≡ false → runs s ≡ true → fetches s ≡ true
+fetch-on s z r = true-and (runs s) (not (s .freeze)) r (ap not z)
+
+pub fetch-off : (s : DpState) → runs s ≡ false → fetches s ≡ false
+fetch-off s r = ap (λ (b : Bool). b && not (s .freeze)) r
+
+pub fetch-frozen : (s : DpState) → s .freeze ≡ true → fetches s ≡ false
+fetch-frozen s z = ap (λ (b : Bool). runs s && not b) z ∙ and-false (runs s)
+
+-- ---- A turn that fetches
 
 -- The word at CURRENT is the running list's last and another list waits
 abbrev pub follows : DpState → Bool

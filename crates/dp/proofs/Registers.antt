@@ -19,7 +19,7 @@ use Rattle.dp.specs.Sound.{DpSound}
 use Rattle.dp.specs.Lists.{runs, listStarted, limitMoved, startWritten}
 use Rattle.dp.specs.Registers.{dpRegister, commandBusy, dpRead, modesWritten, flushed, setsFlush, dpWrite, dpTick, dpAcknowledge}
 use Rattle.dp.specs.Turn.{fetches, listWord, nextListWord, opcode, commandLength, syncFull, framed, advanced, fetched, dpNext}
-use Rattle.dp.proofs.Cases.{flush-off, follows, fetched-cases, next-address, list-follows, none-follows, end-cases, status-cases}
+use Rattle.dp.proofs.Cases.{fetch-on, flush-off, follows, fetched-cases, next-address, list-follows, none-follows, end-cases, status-cases}
 use Rattle.dp.proofs.Listed.{next-fetched, next-still}
 
 list-runs : (s : DpState) → fetches s ≡ true → s .current < s .limit
@@ -270,7 +270,7 @@ flush-written s v e =
 
 -- A turn fetches a word if a list runs and FREEZE is off. Otherwise nothing changes
 pub list-fetches : (s : DpState) → s .current < s .limit → s .freeze ≡ false → fetches s ≡ true
-list-fetches s r z = simp (lt-ltb (s .current) (s .limit) r, z)
+list-fetches s r z = fetch-on s z (lt-ltb (s .current) (s .limit) r)
 
 pub no-list-still : (s : DpState) (w : List ℕ) → s .limit ≤ s .current → dpNext s w ≡ s
 no-list-still s w r = next-still s w (simp (le-ltb (s .current) (s .limit) r))

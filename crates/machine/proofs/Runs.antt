@@ -1,7 +1,7 @@
 -- What a run gives that is not declined: turns one after the other, until it stops.
-use Prim.Native.Nat.{ℕ, zero, suc, _+_, _-_, _*_, _/_, _<_, _≤_, min}
-use mathlib.Core.Path.{_≡_, refl, ap, _∙_}
-use mathlib.Core.Bool.{true, false}
+use Prim.Native.Nat.{ℕ, suc, _+_, _-_, _*_, _/_, _<_, _≤_, min}
+use mathlib.Core.Path.{_≡_, ap, _∙_}
+use mathlib.Core.Bool.{true}
 use mathlib.Core.List.{List, _++_, append-assoc}
 use native.Mathlib.Omega.{arith}
 use native.Mathlib.Nat.{zero-min}
@@ -11,10 +11,10 @@ use Rattle.words.specs.Memory.{Memory, RDRAM, DMEM, IMEM}
 use Rattle.sp.specs.Turn.{spNext, spMove, spAfter, memoryAfter, spTaken}
 use Rattle.sp.proofs.Left.{taken-busy, taken-idle}
 use Rattle.sp.proofs.Turn.{move-length}
-use Rattle.dp.specs.declared.DpState.{DpState}
 use Rattle.dp.specs.Turn.{fetches, nextListWord, dpStep, dpAfter, handedOut, dpTaken, roomFor}
+use Rattle.dp.proofs.Cases.{fetch-frozen}
 use Rattle.dp.proofs.Registers.{list-fetches}
-use Rattle.dp.proofs.Listed.{taken-more, taken-none}
+use Rattle.dp.proofs.Listed.{taken-more, none-taken}
 use Rattle.machine.specs.declared.State.{State}
 use Rattle.machine.specs.Sound.{withSp, withDp, sound}
 use Rattle.machine.specs.Refusals.{spRefusal, dpRefusal}
@@ -22,7 +22,7 @@ use Rattle.machine.specs.Runs.{spRun, spRunMemory, dpRunTaken, dpRun, dp
 use Rattle.machine.specs.Accepted.{Still, OneMore, SpRan, dpRest, dpRestOutput, DpRan}
 use Rattle.machine.proofs.Kept.{sp-turn-kept, dp-turn-kept}
 use Rattle.machine.proofs.Refusals.{sp-checked, dp-checked}
-use Rattle.machine.proofs.Calls.{turn-state, turn-memory, not-running, is-frozen, word-is, dp-turn-state}
+use Rattle.machine.proofs.Calls.{turn-state, turn-memory, not-running, word-is, dp-turn-state}
 
 -- ---- SP runs
 
@@ -53,12 +53,6 @@ room-none budget n h = omega arith
 
 room-one : (budget n : ℕ) → 8 ≤ n → min (suc budget) (n / 8) ≡ suc (min budget ((n - 8) / 8))
 room-one budget n h = omega arith
-
--- A run takes no turn
-none-fetched : (n : ℕ) (s : DpState) (rdram dmem : List ℕ) → fetches s ≡ false → dpTaken n s rdram dmem ≡ 0
-unfolding dpTaken
-none-fetched zero s rdram dmem f = refl
-none-fetched (suc n) s rdram dmem f = taken-none n s rdram dmem f
 
 -- The output after n words and one before them
 one-before : (n : ℕ) (word words out : List ℕ) → word ++ words ++ drop (8 * suc n) out ≡ word ++ (words ++ drop (8 * n) (drop 8 out))
@@ -108,7 +102,7 @@ module _ (s : State) (rdram dmem : List ℕ) (z : dpRefusal s rdram dmem ≡ 0) 
   dp-ran out = record {
     noBudget = no-turn 0 out (ap (λ (n : ℕ). dpTaken n (s .dp) rdram dmem) (zero-min (length out / 8)));
     noRoom = λ budget l. no-turn budget out (ap (λ (n : ℕ). dpTaken n (s .dp) rdram dmem) (room-none budget (length out) l));
-    noList = λ budget r. no-turn budget out (none-fetched (roomFor budget out) (s .dp) rdram dmem (not-running (s .dp) r));
-    frozen = λ budget f. no-turn budget out (none-fetched (roomFor budget out) (s .dp) rdram dmem (is-frozen (s .dp) f));
+    noList = λ budget r. no-turn budget out (none-taken (roomFor budget out) (s .dp) rdram dmem (not-running (s .dp) r));
+    frozen = λ budget f. no-turn budget out (none-taken (roomFor budget out) (s .dp) rdram dmem (fetch-frozen (s .dp) f));
     turn = λ budget l r f. rw (← word-is (s .dp) rdram dmem) (one-turn budget out l (list-fetches (s .dp) r f));
   }
