@@ -77,6 +77,10 @@ module _ (s : State) (rdram dmem : List ℕ) (z : dpRefusal s rdram dmem ≡ 0) 
     unfolding dpRun dpRunOutput dpAfter handedOut
     no-turn e = (rw (z, e) (search), rw (z, e))
 
+    no-room : length out < 8 → dpRunTaken s budget rdram dmem out ≡ 0
+    unfolding dpTaken
+    no-room l = ap (λ (n : ℕ). dpTaken n (s .dp) rdram dmem) (room-none budget (length out) l)
+
     first-turn : 8 ≤ length out → fetches (s .dp) ≡ true
         → dpRunTaken s (suc budget) rdram dmem out ≡ suc (dpRunTaken step budget rdram dmem (drop 8 out))
     unfolding step
@@ -101,7 +105,7 @@ module _ (s : State) (rdram dmem : List ℕ) (z : dpRefusal s rdram dmem ≡ 0) 
   unfolding dpTaken
   dp-ran out = record {
     noBudget = no-turn 0 out (ap (λ (n : ℕ). dpTaken n (s .dp) rdram dmem) (zero-min (length out / 8)));
-    noRoom = λ budget l. no-turn budget out (ap (λ (n : ℕ). dpTaken n (s .dp) rdram dmem) (room-none budget (length out) l));
+    noRoom = λ budget l. no-turn budget out (no-room budget out l);
     noList = λ budget r. no-turn budget out (none-taken (roomFor budget out) (s .dp) rdram dmem (not-running (s .dp) r));
     frozen = λ budget f. no-turn budget out (none-taken (roomFor budget out) (s .dp) rdram dmem (fetch-frozen (s .dp) f));
     turn = λ budget l r f. rw (← word-is (s .dp) rdram dmem) (one-turn budget out l (list-fetches (s .dp) r f));
