@@ -1,4 +1,13 @@
 // The SP engine: its registers. One turn moves one word between RDRAM and DMEM or IMEM.
+mod register; // register.rt: reading and writing the registers, and BREAK
+mod soundness; // soundness.rt: whether the registers are sound
+mod transfer; // transfer.rt: the start of a transfer and its next word
+mod turns; // turns.rt: one turn, and a run
+
+pub use register::sp_register;
+pub use turns::SpRan;
+ghost use mathlib.Core.Path.{_≡_};
+ghost use Rattle.sp.specs.State.{spPowerUp};
 
 // The registers of the SP engine. An address, LEN, ROW and SKIP are in bytes.
 pub struct SpState {
@@ -28,6 +37,36 @@ pub struct SpState {
     // The SP interrupt line.
     pub line: bool,
     pub semaphore: bool,
+}
+
+impl SpState {
+    // Every register and flag zero.
+    pub fn power_up() -> SpState
+        ensures { λ r. ⌜ r ≡ spPowerUp ⌝ }
+    {
+        SpState {
+            splatch: 0,
+            ramlatch: 0,
+            spaddr: 0,
+            ramaddr: 0,
+            len: 0,
+            count: 0,
+            skip: 0,
+            row: 0,
+            busy: false,
+            storing: false,
+            full: false,
+            waiting: 0,
+            waitstoring: false,
+            halted: false,
+            broke: false,
+            sstep: false,
+            intbreak: false,
+            signals: 0,
+            line: false,
+            semaphore: false,
+        }
+    }
 }
 
 // The SP registers in the order of their addresses.

@@ -3,13 +3,14 @@ use Prim.Native.Nat.{ℕ, zero, suc, _+_, _*_, _%_, _^_, _<_, _≤_}
 use mathlib.Core.Path.{_≡_, refl, sym, ap, _∙_}
 use mathlib.Core.Bool.{true}
 use mathlib.Core.Logic.{_↔_}
-use mathlib.Core.List.{List, [], _∷_, map}
+use mathlib.Core.List.{List, [], _∷_, _++_, map}
 use native.Mathlib.Omega.{arith}
-use native.Mathlib.Nat.{add-zero}
-use lib.ListN.{length, getD, set, length-set, replicate, List·getD-eq-default, getD-replicate}
-use lib.Seq.{sets, getD-set-same, getD-set-other, length-sets}
+use native.Mathlib.Nat.{add-zero, zero-add, zero-mul}
+use native.Mathlib.Numerals.{unary-clauses}
+use lib.ListN.{length, getD, set, drop, length-append, length-drop, length-set, replicate, List·getD-eq-default, getD-replicate}
+use lib.Seq.{sets, sets-eq, getD-set-same, getD-set-other, length-sets, ext-getD, take-at, drop-at, drop-drop}
 use borrow.Author.Tests.{leb-true, leb-false, le-leb, lt-leb}
-use Rattle.words.specs.Memory.{Memory, memory, Place, RDRAM, DMEM, IMEM, bytesOf, withBytes, fitted, bytesAt, loadWord, storeWord, wordValue}
+use Rattle.words.specs.Memory.{Memory, memory, Place, RDRAM, DMEM, IMEM, bytesOf, withBytes, fitted, bytesAt, loadWord, storeWord, numberFrom, wordValue}
 use Rattle.words.proofs.Tests.{either}
 
 -- ---- A byte after several are set
@@ -57,6 +58,10 @@ bytes-at l a (suc (suc (suc (suc (suc (suc zero)))))) h = refl
 bytes-at l a (suc (suc (suc (suc (suc (suc (suc zero))))))) h = refl
 bytes-at l a (suc (suc (suc (suc (suc (suc (suc (suc i)))))))) h = absurd (omega arith)
 
+-- Eight bytes are the word at their start
+pub whole-word : (w : List ℕ) → length w ≡ 8 → bytesAt w 0 ≡ w
+whole-word w h = ext-getD 0 (bytesAt w 0) w (bytes-length w 0 ∙ sym h) (λ i k. rw zero-add at (bytes-at w 0 i (omega (arith, bytes-length w 0))))
+
 -- A word is fitted where its eight bytes are lent. Otherwise it reads as zeros, and a store there is dropped
 pub fitted-word : (l : List ℕ) (a : ℕ) → (fitted l a ≡ true) ↔ (a + 8 ≤ length l)
 fitted-word l a = (leb-true (a + 8) (length l), le-leb (a + 8) (length l))
@@ -103,6 +108,17 @@ pub store-inside : (l : List ℕ) (a : ℕ) (w : List ℕ) (i : ℕ) → length 
 unfolding storeWord
 store-inside l a w i e h room = rw (le-leb (a + 8) (length l) room) (sets-inside w l a i (omega arith) (omega arith))
 
+-- A word stored at the end of what stands before it takes the place of the next eight bytes
+pub store-seam : (p l w : List ℕ) (n : ℕ) → length p ≡ n → length w ≡ 8 → n + 8 ≤ length l
+    → storeWord (p ++ drop n l) n w ≡ p ++ w ++ drop (n + 8) l
+unfolding storeWord
+store-seam p l w n ep ew room =
+    let q = p ++ drop n l in
+    let all : length q ≡ length l = length-append p (drop n l) ∙ rw length-drop (omega arith) in
+    let rest : drop (n + 8) q ≡ drop (n + 8) l = sym (drop-drop 8 n q) ∙ rw (drop-at p (drop n l) n ep) (drop-drop 8 n l) in
+    rw (le-leb (n + 8) (length q) (omega arith))
+    (sets-eq w q n (omega arith) ∙ rw (take-at p (drop n l) n ep, ew, rest))
+
 -- The value of a word: the first byte is the most significant
 pub word-value : (a b c d e f g h : ℕ)
     → wordValue (a ∷ b ∷ c ∷ d ∷ e ∷ f ∷ g ∷ h ∷ [])
@@ -140,3 +156,32 @@ pub stored-length : (q : Place) (a : ℕ) (w : List ℕ) (m : Memory) (p : Place
 stored-length q a w m p =
     with-place (λ (r : Place) (l : List ℕ). length l ≡ length (bytesOf r m)) q (storeWord (bytesOf q m) a w) m
     (store-length (bytesOf q m) a w) (λ r. refl) p
+
+-- ---- The eight steps of code that stores a word, and those that read its value
+
+pub stored-bytes : (l : List ℕ) (a : ℕ) (w : List ℕ) → length w ≡ 8 → a + 8 ≤ length l
+    → set
+    (set
+    (set
+    (set
+    (set (set (set (set l a (getD w 0 0)) (a + 1) (getD w 1 0)) (a + 2) (getD w 2 0)) (a + 3) (getD w 3 0))
+    (a + 4)
+    (getD w 4 0))
+    (a + 5)
+    (getD w 5 0))
+    (a + 6)
+    (getD w 6 0))
+    (a + 7)
+    (getD w 7 0)
+    ≡ storeWord l a w
+unfolding storeWord bytesAt
+stored-bytes l a w h k = rw (le-leb (a + 8) (length l) k) (simp unary-clauses (ap (sets l a) (whole-word w h)))
+
+pub value-bytes : (w : List ℕ) → length w ≡ 8
+    → ((((((getD w 0 0 * 256 + getD w 1 0) * 256 + getD w 2 0) * 256 + getD w 3 0) * 256 + getD w 4 0) * 256 + getD w 5 0) * 256
+    + getD w 6 0)
+    * 256
+    + getD w 7 0
+    ≡ wordValue w
+unfolding wordValue bytesAt
+value-bytes w h = simp (zero-mul, zero-add) at (ap (numberFrom 0) (whole-word w h))
