@@ -1,7 +1,8 @@
 pub mod Sound
 pub mod Cases
+pub mod Registers
 pub mod Kept
 pub mod Listed
-pub mod Registers
+pub mod Run
 pub mod Lengths
 pub mod Unchanged

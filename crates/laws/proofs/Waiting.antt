@@ -254,7 +254,7 @@ effect (spRunOver budget m) s h = turned refl (run-moves s budget m) (λ w. refl
 effect (dpRunOver budget rdram dmem out) s h = still refl refl (quiet (dpRefusal s rdram dmem) s _ (nothing (s .sp)))
 
 -- Every call leaves a sound state
-event-kept : (e : Event) (s : State) → sound s ≡ true → sound (eventLeaves e s) ≡ true
+pub event-kept : (e : Event) (s : State) → sound s ≡ true → sound (eventLeaves e s) ≡ true
 event-kept (reads a) s h = read-kept s a h
 event-kept (writes a v f) s h = write-kept s a v f h
 event-kept (ticks n) s h = tick-kept s n h

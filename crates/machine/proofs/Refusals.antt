@@ -89,6 +89,15 @@ dp-checked s rdram dmem z =
 
 -- ---- What a call gives, by the number of its checks
 
+-- By the number of a call's checks
+pub if-accepted : {A : Type 0} (n : ℕ) (refused done : A) → n ≡ 0 → ifRefused n refused done ≡ done
+if-accepted zero refused done e = refl
+if-accepted (suc n) refused done e = absurd (omega arith)
+
+pub if-refused : {A : Type 0} (n : ℕ) (refused done : A) → (n ≡ 0 → ⊥) → ifRefused n refused done ≡ refused
+if-refused zero refused done e = absurd (e refl)
+if-refused (suc n) refused done e = refl
+
 answers : (n : ℕ) (s : State) (done : Outcome) → (n ≡ 0 → done .answer .number ≡ 0) → Answers n s (ifRefused n (declined s n) done)
 answers zero s done h = record { number = h refl; refused = λ k e. absurd (omega arith) }
 answers (suc n) s done h = record { number = refl; refused = λ k e. refl }

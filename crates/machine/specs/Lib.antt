@@ -8,3 +8,4 @@ pub mod Look
 pub mod Kept
 pub mod Broken
 pub mod Accepted
+pub mod Promised

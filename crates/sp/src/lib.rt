@@ -1,10 +1,7 @@
 // The SP engine: its registers. One turn moves one word between RDRAM and DMEM or IMEM.
-mod register; // register.rt: reading and writing the registers, and BREAK
-mod soundness; // soundness.rt: whether the registers are sound
 mod transfer; // transfer.rt: the start of a transfer and its next word
 mod turns; // turns.rt: one turn, and a run
 
-pub use register::sp_register;
 pub use turns::SpRan;
 ghost use mathlib.Core.Path.{_≡_};
 ghost use Rattle.sp.specs.State.{spPowerUp};

@@ -7,8 +7,8 @@ use mathlib.Core.List.{List, [], _∷_, _++_, map}
 use native.Mathlib.Omega.{arith}
 use native.Mathlib.Nat.{add-zero, zero-add, zero-mul}
 use native.Mathlib.Numerals.{unary-clauses}
-use lib.ListN.{length, getD, set, drop, length-append, length-drop, length-set, replicate, List·getD-eq-default, getD-replicate}
-use lib.Seq.{sets, sets-eq, getD-set-same, getD-set-other, length-sets, ext-getD, take-at, drop-at, drop-drop}
+use lib.ListN.{length, getD, set, take, drop, length-append, length-drop, length-set, replicate, List·getD-eq-default, getD-replicate}
+use lib.Seq.{sets, sets-eq, getD-set-same, getD-set-other, length-sets, ext-getD, getD-take, getD-drop, length-take-le, take-at, drop-at, drop-drop}
 use borrow.Author.Tests.{leb-true, leb-false, le-leb, lt-leb}
 use Rattle.words.specs.Memory.{Memory, memory, Place, RDRAM, DMEM, IMEM, bytesOf, withBytes, fitted, bytesAt, loadWord, storeWord, numberFrom, wordValue}
 use Rattle.words.proofs.Tests.{either}
@@ -61,6 +61,15 @@ bytes-at l a (suc (suc (suc (suc (suc (suc (suc (suc i)))))))) h = absurd (omega
 -- Eight bytes are the word at their start
 pub whole-word : (w : List ℕ) → length w ≡ 8 → bytesAt w 0 ≡ w
 whole-word w h = ext-getD 0 (bytesAt w 0) w (bytes-length w 0 ∙ sym h) (λ i k. rw zero-add at (bytes-at w 0 i (omega (arith, bytes-length w 0))))
+
+-- The eight bytes from an address on, as a part of what is lent
+pub part-word : (l : List ℕ) (a : ℕ) → a + 8 ≤ length l → take 8 (drop a l) ≡ bytesAt l a
+part-word l a h =
+    let n : length (take 8 (drop a l)) ≡ 8 = length-take-le 8 (drop a l) (omega (arith, length-drop a l)) in
+    ext-getD 0 (take 8 (drop a l)) (bytesAt l a) (n ∙ sym (bytes-length l a))
+    (λ i k.
+    let b : i < 8 = omega (arith, n) in
+    getD-take 8 (drop a l) i 0 b ∙ getD-drop a l i 0 ∙ sym (bytes-at l a i b))
 
 -- A word is fitted where its eight bytes are lent. Otherwise it reads as zeros, and a store there is dropped
 pub fitted-word : (l : List ℕ) (a : ℕ) → (fitted l a ≡ true) ↔ (a + 8 ≤ length l)

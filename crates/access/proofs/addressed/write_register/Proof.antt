@@ -1,0 +1,44 @@
+-- The number that the checks gave is tested against 0: `if-accepted` and `if-refused` speak of the same test.
+use mathlib.Core.Path.{ap, sym, _∙_}
+use borrow.Author.Needs.{needs}
+use Rattle.machine.specs.Refusals.{accessRefusal, declined}
+use Rattle.machine.specs.Calls.{writeRegister}
+use Rattle.machine.proofs.Refusals.{if-accepted, if-refused}
+use Rattle.access.proofs.addressed.write_register.Statement.{statement}
+use Rattle.access.proofs.addressed.write_register.Tie as tie
+
+access-refusal-requires : tie.Need-access-refusal-requires
+access-refusal-requires c κs = search needs
+
+register-at-requires : tie.Need-register-at-requires
+register-at-requires c κs = search needs
+
+write-at-requires : tie.Need-write-at-requires
+write-at-requires c κs = search needs
+
+returns : tie.Need-returns
+unfolding writeRegister
+returns c =
+    let e = sym (c .before .before .before .access-refusal .ensures) ∙ c .before .before .if1 .taken in
+    record { outcome = c .write-at .ensures ∙ rw (c .before .register-at .ensures) (sym (if-accepted (accessRefusal _ _) _ _ e)) }
+
+declined-requires : tie.Need-declined-requires
+declined-requires c κs = search needs
+
+returns-2 : tie.Need-returns-2
+unfolding writeRegister
+returns-2 c =
+    let e = c .before .before .access-refusal .ensures in
+    let refused = if-refused (accessRefusal _ _) _ _ (λ z. c .before .if1 .left (e ∙ z)) in
+    record { outcome = c .declined .ensures ∙ ap (declined _) e ∙ sym refused }
+
+pub write-register-spec : {M : Type 1} → statement M
+write-register-spec =
+    tie.close
+    (tie.spec
+    access-refusal-requires
+    register-at-requires
+    write-at-requires
+    returns
+    declined-requires
+    returns-2)

@@ -1,0 +1,13 @@
+// Every public call, in one place. Each takes every input and promises its outcome and all lent bytes by a record of machine/specs/Promised.antt.
+pub use access::acknowledge;
+pub use access::read_register;
+pub use access::sp_break;
+pub use access::tick;
+pub use access::write_register;
+pub use checks::is_sound;
+pub use checks::power_up;
+pub use engines::dp_run;
+pub use engines::dp_turn;
+pub use engines::look_ahead;
+pub use engines::sp_run;
+pub use engines::sp_turn;

@@ -1,0 +1,139 @@
+// One DP turn: the word that it fetches, its framing and the registers after it; and a run.
+use crate::DpState;
+use words::fields::ram_add;
+use words::memory::load_word;
+use words::memory::store_word;
+ghost use mathlib.Core.Path.{_≡_};
+ghost use mathlib.Core.Bool.{cond};
+ghost use mathlib.Core.List.{_++_};
+ghost use Prim.Native.Nat.{_*_, _-_, _/_, _≤_, min};
+ghost use lib.Dec.{eqb};
+ghost use lib.ListN.{drop};
+ghost use Rattle.dp.specs.Turn.{fetches, nextListWord, opcode, commandLength, syncFull, framed, advanced, followed, dpNext, dpAfter, handedOut, dpTaken, roomFor};
+
+// The words of a command, by its opcode.
+fn command_length(op: u8) -> u8
+    ensures { λ r. ⌜ (r ≡ commandLength op) × (1 ≤ r) ⌝ }
+{
+    match op {
+        0x08 => 4,
+        0x09 => 6,
+        0x0A => 12,
+        0x0B => 14,
+        0x0C => 12,
+        0x0D => 14,
+        0x0E => 20,
+        0x0F => 22,
+        0x24 => 2,
+        0x25 => 2,
+        _ => 1,
+    }
+}
+
+// The words left of a command after one more of them.
+fn words_left(left: u8, op: u8) -> u8
+    ensures { λ r. ⌜ r ≡ cond (eqb left 0) (commandLength op - 1) (left - 1) ⌝ }
+{
+    if left == 0 {
+        command_length(op) - 1
+    } else {
+        left - 1
+    }
+}
+
+// A budget cut to the words that n bytes of output have room for.
+fn room_for(budget: u32, n: usize) -> u32
+    ensures { λ r. ⌜ r ≡ min budget (n / 8) ⌝ }
+{
+    if n / 8 < budget as usize {
+        (n / 8) as u32
+    } else {
+        budget
+    }
+}
+
+impl DpState {
+    // A turn fetches a word: a list runs and FREEZE is off.
+    pub fn fetches(self) -> bool
+        ensures { λ r. ⌜ r ≡ fetches self ⌝ }
+    {
+        self.runs() & !self.freeze
+    }
+
+    // The word at CURRENT, out of the memory that XBUS selects.
+    pub fn list_word(self, rdram: &[u8], dmem: &[u8]) -> [u8; 8]
+        ensures { λ r. ⌜ r ≡ nextListWord self (now (rdram .entry)) (now (dmem .entry)) ⌝ }
+    {
+        if self.xbus {
+            return load_word(dmem, (self.current % 0x1000) as usize);
+        }
+        load_word(rdram, self.current as usize)
+    }
+
+    // A word is framed.
+    fn framed(mut self, word: [u8; 8]) -> DpState
+        ensures { λ r. ⌜ r ≡ framed self word ⌝ }
+    {
+        let op = word[0] % 64;
+        let sync = (self.wordsleft == 0) & (op == 0x29);
+        self.wordsleft = words_left(self.wordsleft, op);
+        self.pipebusy = self.pipebusy & !sync;
+        self.line = self.line | sync;
+        self
+    }
+
+    fn advanced(mut self) -> DpState
+        ensures { λ r. ⌜ r ≡ advanced self ⌝ }
+    {
+        self.current = ram_add(self.current, 8);
+        self
+    }
+
+    // Where the list has reached its end and another waits, that one starts.
+    fn followed(self) -> DpState
+        ensures { λ r. ⌜ r ≡ followed self ⌝ }
+    {
+        if !self.runs() & self.endpending {
+            return self.list_started();
+        }
+        self
+    }
+
+    // The registers after one turn over the word that it fetches.
+    pub fn next(mut self, word: [u8; 8]) -> DpState
+        ensures { λ r. ⌜ r ≡ dpNext self word ⌝ }
+    {
+        if self.fetches() {
+            self = self.framed(word).advanced().followed();
+        }
+        self
+    }
+
+    // Turns until the budget is used, nothing is fetched or the output is full. The words stand in order from the output's start.
+    pub fn run(mut self, budget: u32, rdram: &[u8], dmem: &[u8], out: &mut [u8]) -> DpRan
+        ensures count { λ r. ⌜ r .count ≡ dpTaken (roomFor budget (now (out .entry))) self (now (rdram .entry)) (now (dmem .entry)) ⌝ }
+        ensures state { λ r. ⌜ r .state ≡ dpAfter (r .count) self (now (rdram .entry)) (now (dmem .entry)) ⌝ }
+        ensures output { λ r. ⌜ now (out .exit)
+            ≡ handedOut (r .count) self (now (rdram .entry)) (now (dmem .entry)) ++ drop (8 * r .count) (now (out .entry)) ⌝ }
+    {
+        let room = room_for(budget, out.len());
+        let mut count: u32 = 0;
+        while count < room {
+            if self.fetches() {
+                let word = self.list_word(rdram, dmem);
+                store_word(out, count as usize * 8, word);
+                self = self.next(word);
+                count += 1;
+            } else {
+                return DpRan { state: self, count };
+            }
+        }
+        DpRan { state: self, count }
+    }
+}
+
+// What a run gives: the registers after it, and the words that it put out.
+pub struct DpRan {
+    pub state: DpState,
+    pub count: u32,
+}
