@@ -9,7 +9,7 @@ ghost use mathlib.Core.List.{_++_};
 ghost use Prim.Native.Nat.{_*_, _-_, _/_, _≤_, min};
 ghost use lib.Dec.{eqb};
 ghost use lib.ListN.{drop};
-ghost use Rattle.dp.specs.Turn.{fetches, nextListWord, opcode, commandLength, syncFull, framed, advanced, followed, dpNext, dpAfter, handedOut, dpTaken, roomFor};
+ghost use Rattle.dp.specs.Turn.{fetches, nextListWord, commandLength, framed, advanced, followed, dpNext, dpAfter, handedOut, dpTaken, roomFor};
 
 // The words of a command, by its opcode.
 fn command_length(op: u8) -> u8
