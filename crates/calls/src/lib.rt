@@ -1,4 +1,4 @@
-// Every public call, in one place. Each takes every input and promises its outcome and all lent bytes by a record of machine/specs/Promised.antt.
+// Every public call, in one place. Each takes every input; what it promises is in machine/specs/Promised.antt.
 pub use access::acknowledge;
 pub use access::read_register;
 pub use access::sp_break;

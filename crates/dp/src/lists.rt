@@ -14,7 +14,7 @@ impl DpState {
     }
 
     // The list from START to END starts.
-    pub fn list_started(mut self) -> DpState
+    pub(crate) fn list_started(mut self) -> DpState
         ensures { λ r. ⌜ r ≡ listStarted self ⌝ }
     {
         self.current = self.start;
@@ -26,7 +26,7 @@ impl DpState {
     }
 
     // LIMIT moves to END.
-    pub fn limit_moved(mut self) -> DpState
+    fn limit_moved(mut self) -> DpState
         ensures { λ r. ⌜ r ≡ limitMoved self ⌝ }
     {
         let limit = pick(self.flush, self.current, self.end);

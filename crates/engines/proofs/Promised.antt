@@ -8,7 +8,7 @@ use lib.ListN.{drop}
 use denote.Ref.{RefT}
 use Rattle.words.specs.Memory.{Memory, fitted, wordValue}
 use Rattle.sp.specs.declared.SpState.{SpState}
-use Rattle.sp.specs.Turn.{spNext, spMove, spAfter, memoryAfter, spTaken}
+use Rattle.sp.specs.Turn.{spAfter, memoryAfter, spTaken}
 use Rattle.dp.specs.declared.DpState.{DpState}
 use Rattle.dp.specs.Turn.{fetches, nextListWord, dpNext, dpAfter, handedOut}
 use Rattle.machine.specs.declared.State.{State}
@@ -19,20 +19,13 @@ use Rattle.machine.specs.Turns.{spTurn, spTurnMemory, dpTurn}
 use Rattle.machine.specs.Runs.{spRun, spRunMemory, dpRunTaken, dpRun, dpRunOutput}
 use Rattle.machine.specs.Look.{Part, rdramWord, dmemWord, rdramEmpty, dmemEmpty, look}
 use Rattle.machine.specs.Promised.{SpTurnGives, SpRunGives, DpTurnGives, DpRunGives, shownPart, partOf, LookGives}
-use Rattle.machine.proofs.Refusals.{if-refused}
+use Rattle.machine.proofs.Refusals.{if-refused, refused-outcome}
+use Rattle.machine.proofs.Runs.{run-of-one}
 
 -- ---- SP calls
 
 module _ {s : State} {m : Memory} {n : ℕ} (number : n ≡ spRefusal s m) where
   module _ (z : n ≡ 0) {o : Outcome} {m′ : Memory} {next : SpState} {s′ : State} {count : ℕ} where
-    pub sp-turn-done : next ≡ spNext (s .sp) → m′ ≡ spMove (s .sp) m → s′ ≡ withSp s next → count ≡ cond (s .sp .busy) 1 0
-        → o ≡ accepted s′ 0 count
-        → SpTurnGives s m o m′
-    unfolding spTurn spTurnMemory
-    sp-turn-done registers bytes state counted outcome =
-        let passed = sym number ∙ z in
-        record { outcome = rw passed (rw (outcome, state, registers, counted)); bytes = rw passed bytes }
-
     pub sp-run-done : (budget : ℕ) → count ≡ spTaken budget (s .sp) → next ≡ spAfter (spTaken budget (s .sp)) (s .sp)
         → m′ ≡ memoryAfter (spTaken budget (s .sp)) (s .sp) m
         → s′ ≡ withSp s next
@@ -47,16 +40,20 @@ module _ {s : State} {m : Memory} {n : ℕ} (number : n ≡ spRefusal s m) where
     pub sp-turn-declined : SpTurnGives s m o m
     unfolding spTurn spTurnMemory
     sp-turn-declined = record {
-      outcome = outcome ∙ ap (declined s) number ∙ sym (if-refused (spRefusal s m) _ _ (λ e. z (number ∙ e)));
+      outcome = refused-outcome _ outcome number z;
       bytes = sym (if-refused (spRefusal s m) _ _ (λ e. z (number ∙ e)));
     }
 
     pub sp-run-declined : (budget : ℕ) → SpRunGives s budget m o m
     unfolding spRun spRunMemory
     sp-run-declined budget = record {
-      outcome = outcome ∙ ap (declined s) number ∙ sym (if-refused (spRefusal s m) _ _ (λ e. z (number ∙ e)));
+      outcome = refused-outcome _ outcome number z;
       bytes = sym (if-refused (spRefusal s m) _ _ (λ e. z (number ∙ e)));
     }
+
+-- A run with budget 1 gives what a turn gives
+pub turn-given : {s : State} {m : Memory} {o : Outcome} {m′ : Memory} → SpRunGives s 1 m o m′ → SpTurnGives s m o m′
+turn-given {s} {m} g = record { outcome = g .outcome ∙ run-of-one s m .0; bytes = g .bytes ∙ run-of-one s m .1 }
 
 -- ---- DP calls
 
@@ -98,7 +95,7 @@ module _ {s : State} {rdram dmem : List ℕ} {n : ℕ} (number : n ≡ dpRefusal
     pub dp-turn-declined : DpTurnGives s rdram dmem o rdram dmem
     unfolding dpTurn
     dp-turn-declined = record {
-      outcome = outcome ∙ ap (declined s) number ∙ sym (if-refused (dpRefusal s rdram dmem) _ _ (λ e. z (number ∙ e)));
+      outcome = refused-outcome _ outcome number z;
       rdramKept = refl;
       dmemKept = refl;
     }
@@ -106,7 +103,7 @@ module _ {s : State} {rdram dmem : List ℕ} {n : ℕ} (number : n ≡ dpRefusal
     pub dp-run-declined : (budget : ℕ) {out : List ℕ} → DpRunGives s budget rdram dmem out o rdram dmem out
     unfolding dpRun dpRunOutput
     dp-run-declined budget = record {
-      outcome = outcome ∙ ap (declined s) number ∙ sym (if-refused (dpRefusal s rdram dmem) _ _ (λ e. z (number ∙ e)));
+      outcome = refused-outcome _ outcome number z;
       output = sym (if-refused (dpRefusal s rdram dmem) _ _ (λ e. z (number ∙ e)));
       rdramKept = refl;
       dmemKept = refl;

@@ -19,9 +19,11 @@ pub fn sp_turn(s: State, rdram: &mut [u8], dmem: &mut [u8], imem: &mut [u8]) -> 
 {
     let number = sp_refusal(s, rdram, dmem, imem);
     if number == 0 {
+        // A run with budget 1 is a turn. So the engine's turn is called in one place, the run's loop, and is compiled into it.
         let sp = s.sp;
-        let next = sp.turn(rdram, dmem, imem);
-        return accepted(s.with_sp(next), 0, pick(sp.busy, 1, 0));
+        let ran = sp.run(1, rdram, dmem, imem);
+        let next = ran.state;
+        return accepted(s.with_sp(next), 0, ran.count);
     }
     declined(s, number)
 }
@@ -42,8 +44,9 @@ pub fn dp_turn(s: State, rdram: &[u8], dmem: &[u8]) -> Outcome
         let dp = s.dp;
         let fetches = dp.fetches();
         let word = dp.list_word(rdram, dmem);
+        let next = dp.next(word);
         return accepted(
-            s.with_dp(dp.next(word)),
+            s.with_dp(next),
             value_if(fetches, word),
             pick(fetches, 1, 0),
         );

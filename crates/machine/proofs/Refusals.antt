@@ -98,6 +98,11 @@ pub if-refused : {A : Type 0} (n : ℕ) (refused done : A) → (n ≡ 0 → ⊥)
 if-refused zero refused done e = absurd (e refl)
 if-refused (suc n) refused done e = refl
 
+-- A declined outcome by the number n that the checks gave is the call's
+pub refused-outcome : {n r : ℕ} {s : State} {o : Outcome} (done : Outcome) → o ≡ declined s n → n ≡ r → (n ≡ 0 → ⊥)
+    → o ≡ ifRefused r (declined s r) done
+refused-outcome {n} {r} {s} done e f z = e ∙ ap (declined s) f ∙ sym (if-refused r _ _ (λ k. z (f ∙ k)))
+
 answers : (n : ℕ) (s : State) (done : Outcome) → (n ≡ 0 → done .answer .number ≡ 0) → Answers n s (ifRefused n (declined s n) done)
 answers zero s done h = record { number = h refl; refused = λ k e. absurd (omega arith) }
 answers (suc n) s done h = record { number = refl; refused = λ k e. refl }

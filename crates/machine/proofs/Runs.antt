@@ -1,28 +1,55 @@
 -- What a run gives that is not declined: turns one after the other, until it stops.
 use Prim.Native.Nat.{ℕ, suc, _+_, _-_, _*_, _/_, _<_, _≤_, min}
-use mathlib.Core.Path.{_≡_, ap, _∙_}
-use mathlib.Core.Bool.{true}
+use mathlib.Core.Path.{_≡_, refl, sym, ap, _∙_}
+use mathlib.Core.Bool.{Bool, true, false}
 use mathlib.Core.List.{List, _++_, append-assoc}
 use native.Mathlib.Omega.{arith}
 use native.Mathlib.Nat.{zero-min}
 use lib.ListN.{length, drop, length-drop}
 use lib.Seq.{drop-drop}
+use Rattle.words.specs.Bits.{asBit}
 use Rattle.words.specs.Memory.{Memory, RDRAM, DMEM, IMEM}
+use Rattle.sp.specs.declared.SpState.{SpState}
 use Rattle.sp.specs.Turn.{spNext, spMove, spAfter, memoryAfter, spTaken}
 use Rattle.sp.proofs.Left.{taken-busy, taken-idle}
-use Rattle.sp.proofs.Turn.{move-length}
+use Rattle.sp.proofs.Turn.{next-idle, move-idle, move-length}
 use Rattle.dp.specs.Turn.{fetches, nextListWord, dpStep, dpAfter, handedOut, dpTaken, roomFor}
 use Rattle.dp.proofs.Cases.{fetch-frozen}
 use Rattle.dp.proofs.Registers.{list-fetches}
 use Rattle.dp.proofs.Listed.{taken-more, none-taken}
 use Rattle.machine.specs.declared.State.{State}
 use Rattle.machine.specs.Sound.{withSp, withDp, sound}
-use Rattle.machine.specs.Refusals.{spRefusal, dpRefusal}
+use Rattle.machine.specs.Refusals.{spRefusal, dpRefusal, accepted, declined, ifRefused}
+use Rattle.machine.specs.Turns.{spTurn, spTurnMemory}
 use Rattle.machine.specs.Runs.{spRun, spRunMemory, dpRunTaken, dpRun, dpRunOutput}
 use Rattle.machine.specs.Accepted.{Still, OneMore, SpRan, dpRest, dpRestOutput, DpRan}
 use Rattle.machine.proofs.Kept.{sp-turn-kept, dp-turn-kept}
 use Rattle.machine.proofs.Refusals.{sp-checked, dp-checked}
 use Rattle.machine.proofs.Calls.{turn-state, turn-memory, not-running, word-is, dp-turn-state}
+
+-- ---- A run with budget 1 is a turn
+
+turn-of-one : (s : SpState) (m : Memory)
+    → (spTaken 1 s ≡ asBit (s .busy)) × (spAfter (spTaken 1 s) s ≡ spNext s) × (memoryAfter (spTaken 1 s) s m ≡ spMove s m)
+unfolding spTaken spAfter memoryAfter
+turn-of-one s m = go (s .busy) refl
+  where
+    go : (b : Bool) → s .busy ≡ b
+        → (spTaken 1 s ≡ asBit (s .busy)) × (spAfter (spTaken 1 s) s ≡ spNext s) × (memoryAfter (spTaken 1 s) s m ≡ spMove s m)
+    go true e =
+        let one : spTaken 1 s ≡ 1 = taken-busy 0 s e in
+        (one ∙ sym (ap asBit e), rw one, rw one)
+    go false e =
+        let none : spTaken 1 s ≡ 0 = taken-idle 1 s e in
+        (none ∙ sym (ap asBit e), rw none (sym (next-idle s e)), rw none (sym (move-idle s m e)))
+
+pub run-of-one : (s : State) (m : Memory) → (spRun s 1 m ≡ spTurn s m) × (spRunMemory s 1 m ≡ spTurnMemory s m)
+unfolding spRun spTurn spRunMemory spTurnMemory
+run-of-one s m =
+    let h = turn-of-one (s .sp) m in (
+      λ i. ifRefused (spRefusal s m) (declined s (spRefusal s m)) (accepted (withSp s (h .1 i)) 0 (h .0 i)),
+      λ i. ifRefused (spRefusal s m) m (h .2 i),
+    )
 
 -- ---- SP runs
 

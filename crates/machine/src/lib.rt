@@ -1,4 +1,4 @@
-// The whole machine: both engines in one state, and what a call answers. The definitions of all calls are in specs/, their code in `calls`.
+// The whole machine: both engines in one state, and what a call answers. The definitions of all calls are in specs/; `calls` names their code.
 use dp::DpRegister;
 use dp::DpState;
 use sp::SpRegister;

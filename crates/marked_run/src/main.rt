@@ -112,7 +112,7 @@ fn m1() {
 }
 
 // Shows RAMADDR, SPADDR and the length.
-fn transfer(s: State) -> State {
+fn show_transfer(s: State) -> State {
     read(read(read(s, RAM_ADDR), SP_ADDR), RD_LEN)
 }
 
@@ -121,13 +121,13 @@ fn m2(rdram: &mut [u8], dmem: &mut [u8], imem: &mut [u8]) -> State {
     io::write_all(STDOUT_FILENO, b"\nM2");
     let s = write(calls::power_up(), RAM_ADDR, 0x1000);
     let s = write(s, RD_LEN, 0x0200B03F);
-    transfer(sp_turns(s, 9, rdram, dmem, imem))
+    show_transfer(sp_turns(s, 9, rdram, dmem, imem))
 }
 
 // The rest of its 96 turns.
 fn m3(s: State, rdram: &mut [u8], dmem: &mut [u8], imem: &mut [u8]) {
     io::write_all(STDOUT_FILENO, b"\nM3");
-    transfer(sp_turns(s, 87, rdram, dmem, imem));
+    show_transfer(sp_turns(s, 87, rdram, dmem, imem));
 }
 
 // A run with the largest budget; shows its count.
@@ -172,21 +172,25 @@ fn m7() {
     read(write(s, SEMAPHORE, 1), SEMAPHORE);
 }
 
-// The list from START to END.
-fn list(s: State, start: u32, end: u32) -> State {
+// Writes START and END.
+fn write_list(s: State, start: u32, end: u32) -> State {
     write(write(s, START, start), END, end)
 }
 
 // An empty list.
 fn m8() {
     io::write_all(STDOUT_FILENO, b"\nM8");
-    read(list(calls::power_up(), 0x2000, 0x2000), DP_STATUS);
+    read(write_list(calls::power_up(), 0x2000, 0x2000), DP_STATUS);
 }
 
 // A list that waits for another.
 fn m9(rdram: &[u8], dmem: &[u8]) {
     io::write_all(STDOUT_FILENO, b"\nM9");
-    let s = list(list(calls::power_up(), 0x2000, 0x2018), 0x3000, 0x3008);
+    let s = write_list(
+        write_list(calls::power_up(), 0x2000, 0x2018),
+        0x3000,
+        0x3008,
+    );
     let s = read(s, DP_STATUS);
     let s = read(dp_turns(s, 3, rdram, dmem), CURRENT);
     read(s, DP_STATUS);
@@ -195,7 +199,7 @@ fn m9(rdram: &[u8], dmem: &[u8]) {
 // FREEZE, and off again.
 fn m10() {
     io::write_all(STDOUT_FILENO, b"\nM10");
-    let s = list(write(calls::power_up(), DP_STATUS, 8), 0x2000, 0x2008);
+    let s = write_list(write(calls::power_up(), DP_STATUS, 8), 0x2000, 0x2008);
     let s = read(s, DP_STATUS);
     read(write(s, DP_STATUS, 4), DP_STATUS);
 }
@@ -211,7 +215,12 @@ fn set_byte(m: &mut [u8], at: usize, b: u8) {
 fn m11(rdram: &mut [u8], dmem: &[u8]) {
     io::write_all(STDOUT_FILENO, b"\nM11");
     set_byte(rdram, 0x2000, 0xE9);
-    let s = dp_turns(list(calls::power_up(), 0x2000, 0x2008), 1, rdram, dmem);
+    let s = dp_turns(
+        write_list(calls::power_up(), 0x2000, 0x2008),
+        1,
+        rdram,
+        dmem,
+    );
     set_byte(rdram, 0x2000, 0);
     let dp = s.dp;
     show_flag(dp.line);
@@ -221,7 +230,12 @@ fn m11(rdram: &mut [u8], dmem: &[u8]) {
 // FLUSH.
 fn m12(rdram: &[u8], dmem: &[u8]) {
     io::write_all(STDOUT_FILENO, b"\nM12");
-    let s = dp_turns(list(calls::power_up(), 0x2000, 0x2018), 1, rdram, dmem);
+    let s = dp_turns(
+        write_list(calls::power_up(), 0x2000, 0x2018),
+        1,
+        rdram,
+        dmem,
+    );
     let s = read(write(s, DP_STATUS, 0x20), CURRENT);
     read(s, DP_STATUS);
     io::write_all(STDOUT_FILENO, b"\n");

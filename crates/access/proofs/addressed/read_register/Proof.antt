@@ -1,9 +1,9 @@
--- The number that the checks gave is tested against 0: `if-accepted` and `if-refused` speak of the same test.
-use mathlib.Core.Path.{ap, sym, _∙_}
+-- The number that the checks gave is tested against 0: `if-accepted` and `refused-outcome` speak of the same test.
+use mathlib.Core.Path.{sym, _∙_}
 use borrow.Author.Needs.{needs}
-use Rattle.machine.specs.Refusals.{accessRefusal, declined}
+use Rattle.machine.specs.Refusals.{accessRefusal}
 use Rattle.machine.specs.Calls.{readRegister}
-use Rattle.machine.proofs.Refusals.{if-accepted, if-refused}
+use Rattle.machine.proofs.Refusals.{if-accepted, refused-outcome}
 use Rattle.access.proofs.addressed.read_register.Statement.{statement}
 use Rattle.access.proofs.addressed.read_register.Tie as tie
 
@@ -27,10 +27,7 @@ declined-requires c κs = search needs
 
 returns-2 : tie.Need-returns-2
 unfolding readRegister
-returns-2 c =
-    let e = c .before .before .access-refusal .ensures in
-    let refused = if-refused (accessRefusal _ _) _ _ (λ z. c .before .if1 .left (e ∙ z)) in
-    record { outcome = c .declined .ensures ∙ ap (declined _) e ∙ sym refused }
+returns-2 c = record { outcome = refused-outcome _ (c .declined .ensures) (c .before .before .access-refusal .ensures) (c .before .if1 .left) }
 
 pub read-register-spec : {M : Type 1} → statement M
 read-register-spec =

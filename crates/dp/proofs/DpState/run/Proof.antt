@@ -1,15 +1,15 @@
--- Between two turns the invariant is `Going`, and the output keeps its length.
+-- Between two turns the invariant is `RunSoFar`, and the output keeps its length.
 use Prim.Native.Nat.{_-_}
 use mathlib.Core.Path.{_≡_, refl, sym, _∙_}
 use lib.ListN.{length}
 use borrow.Author.Needs.{needs}
-use Rattle.dp.proofs.Run.{Going, going-first, going-on, ended-idle, ended-full}
+use Rattle.dp.proofs.Run.{RunSoFar, run-first, run-next, ended-idle, ended-full}
 use Rattle.dp.proofs.DpState.run.Statement.{statement}
 use Rattle.dp.proofs.DpState.run.Tie as tie
 
 abbrev Inv-loop : tie.InvT-loop
 Inv-loop self₀ budget rdram dmem out₀ room count₀ self out count =
-    Going budget self₀ rdram dmem out₀ room count self out × (length out ≡ length out₀)
+    RunSoFar budget self₀ rdram dmem out₀ room count self out × (length out ≡ length out₀)
 
 abbrev μ-loop : tie.MeasureT-loop
 μ-loop self₀ budget rdram dmem out₀ room count₀ self out count = room - count
@@ -18,7 +18,7 @@ room-for-requires : tie.Need-room-for-requires Inv-loop μ-loop
 room-for-requires c κs = search needs
 
 loop-holds : tie.Need-loop-holds Inv-loop μ-loop
-loop-holds c = (going-first (c .room-for .ensures), refl)
+loop-holds c = (run-first (c .room-for .ensures), refl)
 
 fetches-requires : tie.Need-fetches-requires Inv-loop μ-loop
 fetches-requires c κs = search needs
@@ -53,7 +53,7 @@ loop-again c =
     let i = f .before in
     let inv = i .before .loop .inv in
     let on = sym (f .fetches .ensures) ∙ t .if1 .taken in (
-      going-on (i .loop-test .taken) on (l .list-word .ensures) (c .next .ensures) (w .store-word .ensures) (inv .0),
+      run-next (i .loop-test .taken) on (l .list-word .ensures) (c .next .ensures) (w .store-word .ensures) (inv .0),
       w .store-word .kept .0 ∙ inv .1,
     )
 

@@ -1,19 +1,16 @@
 use borrow.Author.Needs.{needs}
-use Rattle.engines.proofs.Promised.{sp-turn-done, sp-turn-declined}
+use Rattle.engines.proofs.Promised.{sp-run-done, sp-turn-declined, turn-given}
 use Rattle.engines.proofs.turns.sp_turn.Statement.{statement}
 use Rattle.engines.proofs.turns.sp_turn.Tie as tie
 
 sp-refusal-requires : tie.Need-sp-refusal-requires
 sp-refusal-requires c κs = search needs
 
-turn-requires : tie.Need-turn-requires
-turn-requires c κs = search needs
+run-requires : tie.Need-run-requires
+run-requires c κs = search needs
 
 with-sp-requires : tie.Need-with-sp-requires
 with-sp-requires c κs = search needs
-
-pick-requires : tie.Need-pick-requires
-pick-requires c κs = search needs
 
 accepted-requires : tie.Need-accepted-requires
 accepted-requires c κs = search needs
@@ -29,11 +26,12 @@ same-length-3 c = search needs
 
 returns : tie.Need-returns
 returns c =
-    let w = c .before .before in
-    let t = w .before .before .before .before .before .before .before in
+    let w = c .before in
+    let t = w .before .before .before .before .before .before .before .before in
     let i = t .before .before .before .before .before in
-    sp-turn-done (i .before .sp-refusal .ensures) (i .if1 .taken) (t .turn .ensures .0) (t .turn .ensures .1) (w .with-sp .ensures)
-    (c .before .pick .ensures) (c .accepted .ensures)
+    let e = t .run .ensures in
+    turn-given
+    (sp-run-done (i .before .sp-refusal .ensures) (i .if1 .taken) 1 (e .0) (e .1 .0) (e .1 .1) (w .with-sp .ensures) (c .accepted .ensures))
 
 declined-requires : tie.Need-declined-requires
 declined-requires c κs = search needs
@@ -57,9 +55,8 @@ sp-turn-spec =
     tie.close
     (tie.spec
     sp-refusal-requires
-    turn-requires
+    run-requires
     with-sp-requires
-    pick-requires
     accepted-requires
     same-length
     same-length-2
