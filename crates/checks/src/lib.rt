@@ -8,8 +8,10 @@ mod sp_soundness; // sp_soundness.rt: whether the SP registers are sound
 pub use addresses::register_at;
 pub use refusals::accepted;
 pub use refusals::access_refusal;
+pub use refusals::check;
 pub use refusals::declined;
 pub use refusals::dp_refusal;
+pub use refusals::is_register;
 pub use refusals::sp_refusal;
 pub use refusals::state_refusal;
 pub use soundness::is_sound;

@@ -10,7 +10,7 @@ ghost use Rattle.words.specs.Memory.{memory};
 ghost use Rattle.machine.specs.Refusals.{check, rdramAllowed, bankAllowed, isRegister, stateRefusal, accessRefusal, spRefusal, dpRefusal, accepted, declined};
 
 // The number n where a check fails, else what the later checks give.
-fn check(ok: bool, n: u32, later: u32) -> u32
+pub fn check(ok: bool, n: u32, later: u32) -> u32
     ensures { λ r. ⌜ r ≡ check ok n later ⌝ }
 {
     if ok { later } else { n }
@@ -29,7 +29,8 @@ fn bank_allowed(n: usize) -> bool
     n == 4096
 }
 
-fn is_register(register: Register) -> bool
+// Whether a register stands there.
+pub fn is_register(register: Register) -> bool
     ensures { λ r. ⌜ r ≡ isRegister register ⌝ }
 {
     match register {

@@ -1,7 +1,7 @@
 // Words of lent memory: one test of the whole word, then its eight bytes.
 ghost use mathlib.Core.Path.{_≡_};
 ghost use Prim.Native.Nat.{_<_};
-ghost use Rattle.words.specs.Memory.{loadWord, storeWord, wordValue};
+ghost use Rattle.words.specs.Memory.{loadWord, storeWord, wordValue, lowByte, wordBytes};
 
 // The word at an address; zeros where it is not fitted.
 pub fn load_word(m: &[u8], at: usize) -> [u8; 8]
@@ -59,4 +59,26 @@ pub fn word_value(w: [u8; 8]) -> u64
 {
     let high = ((wide(w[0]) * 256 + wide(w[1])) * 256 + wide(w[2])) * 256 + wide(w[3]);
     (((high * 256 + wide(w[4])) * 256 + wide(w[5])) * 256 + wide(w[6])) * 256 + wide(w[7])
+}
+
+fn low_byte(v: u64) -> u8
+    ensures { λ r. ⌜ r ≡ lowByte v ⌝ }
+{
+    (v % 256) as u8
+}
+
+// The bytes of a number, most significant first.
+pub fn word_bytes(v: u64) -> [u8; 8]
+    ensures { λ r. ⌜ r ≡ wordBytes v ⌝ }
+{
+    [
+        low_byte(v / 0x100000000000000),
+        low_byte(v / 0x1000000000000),
+        low_byte(v / 0x10000000000),
+        low_byte(v / 0x100000000),
+        low_byte(v / 0x1000000),
+        low_byte(v / 0x10000),
+        low_byte(v / 0x100),
+        low_byte(v),
+    ]
 }

@@ -1,0 +1,27 @@
+-- The whole case of paper 01, by computation.
+use mathlib.Core.Path.{_≡_, refl}
+use Rattle.sp.specs.Transfer.{started, lengthWritten, nextWord, ended}
+use Rattle.sp.specs.Sound.{spSound}
+use Rattle.sp.specs.Turn.{spNext, spAfter, spTaken}
+use Rattle.dp.specs.Sound.{dpSound}
+use Rattle.machine.specs.Sound.{sound}
+use Rattle.machine.specs.Address.{registerAt}
+use Rattle.machine.specs.Refusals.{accessRefusal, spRefusal}
+use Rattle.machine.specs.Calls.{readRegister, writeRegister}
+use Rattle.machine.specs.Runs.{spRun}
+use Rattle.recording.specs.Kinds.{decoded, recordOf}
+use Rattle.recording.specs.Reader.{recordNumber}
+use Rattle.recording.specs.Split.{splitFrom}
+use Rattle.listing.specs.Text.{hex, leading, decimal, runLine, verdict, foundLine, endLine}
+use Rattle.playback.specs.Effects.{after, line}
+use Rattle.playback.specs.Replay.{lines, replayRefusal, replay}
+use Rattle.playback.specs.Case.{bytes, start, text}
+
+pub whole-case : (replay bytes start .text ≡ text)
+    × (replay bytes start .outcome .answer .number ≡ 0)
+    × (replay bytes start .outcome .answer .count ≡ 4)
+unfolding bytes start text replay replayRefusal spRefusal accessRefusal sound spSound dpSound registerAt
+    splitFrom recordNumber recordOf decoded lines after line writeRegister readRegister
+    spRun spTaken spAfter spNext started lengthWritten nextWord ended
+    runLine foundLine verdict hex decimal leading endLine
+whole-case = (refl, refl, refl)

@@ -1,0 +1,201 @@
+-- The theorem of every replay.
+use Prim.Native.Nat.{ℕ, zero, suc, _≤_, min}
+use mathlib.Core.Path.{_≡_, refl, sym, ap, _∙_}
+use mathlib.Core.Bool.{true}
+use mathlib.Core.List.{List, _++_}
+use native.Mathlib.Omega.{arith}
+use lib.Dec.{ltb, eqb}
+use lib.ListN.{length, take, drop, length-take}
+use lib.Seq.{take-all, take-append-seam, drop-append-seam}
+use borrow.Author.Tests.{le-leb, lt-leb, ltb-true, ltb-false, eq-eqb, ne-eqb}
+use Rattle.words.specs.Memory.{Memory, Place, bytesOf}
+use Rattle.words.proofs.Tests.{by}
+use Rattle.machine.specs.declared.State.{State}
+use Rattle.machine.specs.declared.Outcome.{Outcome}
+use Rattle.machine.specs.Sound.{sound}
+use Rattle.machine.specs.Refusals.{rdramAllowed, bankAllowed, spRefusal, declined}
+use Rattle.laws.specs.World.{World, world}
+use Rattle.recording.specs.declared.Record.{Record}
+use Rattle.recording.specs.Reader.{longest}
+use Rattle.recording.specs.Split.{split}
+use Rattle.recording.proofs.Numbers.{small}
+use Rattle.recording.proofs.Splitting.{read-on, accepted-alone, items-fit, numbers}
+use Rattle.playback.specs.declared.Replayed.{Replayed}
+use Rattle.playback.specs.Replay.{Played, afterAll, ending, replayRefusal, replay}
+use Rattle.playback.specs.Promised.{ReplayGives}
+use Rattle.playback.specs.Theorems.{SameLeft, Begun, longestListing, Bytes, EveryReplay}
+use Rattle.playback.proofs.Steps.{short-enough, replay-begun, replay-not}
+use Rattle.playback.proofs.Room.{listing-size}
+use Rattle.playback.proofs.Sounds.{items-accepted, all-keep-sound, all-keep-lengths, all-succeed}
+
+-- ---- The checks before the first record
+
+-- The number 9 stands for the recording's length alone
+sp-at-most : (s : State) (m : Memory) → spRefusal s m ≤ 8
+unfolding spRefusal
+sp-at-most s m =
+    small (rdramAllowed (length (m .rdram))) 1 _ (omega arith)
+    (small (bankAllowed (length (m .dmem))) 2 _ (omega arith)
+    (small (bankAllowed (length (m .imem))) 3 _ (omega arith)
+    (small (sound s) 4 0 (omega arith) (omega arith))))
+
+refusal-short : (s : List ℕ) (w : World) → length s ≤ longest → replayRefusal s w ≡ spRefusal (w .state) (w .memory)
+unfolding replayRefusal
+refusal-short s w h = rw (le-leb (length s) longest h)
+
+refusal-long : (s : List ℕ) (w : World) → suc longest ≤ length s → replayRefusal s w ≡ 9
+unfolding replayRefusal
+refusal-long s w h = rw (lt-leb (length s) longest h)
+
+-- The machine's checks pass where a replay begins
+machine-passes : (s : List ℕ) (w : World) → replayRefusal s w ≡ 0 → spRefusal (w .state) (w .memory) ≡ 0
+machine-passes s w z = sym (refusal-short s w (short-enough s w z)) ∙ z
+
+-- The first bytes of a recording begin too
+begins-cut : (s : List ℕ) (w : World) (last : ℕ) → replayRefusal s w ≡ 0 → replayRefusal (take last s) w ≡ 0
+begins-cut s w last z =
+    let h = short-enough s w z in
+    let n : length (take last s) ≡ min last (length s) = length-take last s in
+    refusal-short (take last s) w (omega arith) ∙ machine-passes s w z
+
+-- By the number of the checks
+by-refusal : {P : Type 0} (n : ℕ) → (n ≡ 0 → P) → ((k : ℕ) → n ≡ suc k → P) → P
+by-refusal zero f g = f refl
+by-refusal (suc n) f g = g n refl
+
+-- ---- One replay
+
+module _ (state : State) (s : List ℕ) (m : Memory) (d : List ℕ) (r : Replayed) (s′ : List ℕ) (m′ : Memory) (d′ : List ℕ)
+    (g : ReplayGives state s m d r s′ m′ d′) where
+  -- One that does not begin
+  not-begun : (n : ℕ) → replayRefusal s (world state m) ≡ suc n → (r .outcome ≡ declined state (suc n)) × (m′ ≡ m)
+  not-begun n e =
+      let q = replay-not s (world state m) (λ z. omega arith) in (
+        g .outcome ∙ ap (λ (x : Played). x .outcome) q ∙ ap (declined state) e,
+        g .bytes ∙ ap (λ (x : Played). x .memory) q,
+      )
+
+  -- One that begins
+  begun-outcome : replayRefusal s (world state m) ≡ 0
+      → r .outcome ≡ ending (afterAll (split s .items) (world state m) .state) (split s .number) (length (split s .items))
+  begun-outcome z = g .outcome ∙ ap (λ (x : Played). x .outcome) (replay-begun s (world state m) z)
+
+  begun-memory : replayRefusal s (world state m) ≡ 0 → m′ ≡ afterAll (split s .items) (world state m) .memory
+  begun-memory z = g .bytes ∙ ap (λ (x : Played). x .memory) (replay-begun s (world state m) z)
+
+  -- The number of a short recording's replay
+  short-number : length s ≤ longest → r .outcome .answer .number ≤ 8
+  short-number h =
+      by-refusal (replayRefusal s (world state m))
+      (λ z. rw (begun-outcome z) (numbers s))
+      (λ k e. rw (not-begun k e .0, ← e, refusal-short s (world state m) h) (sp-at-most state m))
+
+  long-number : suc longest ≤ length s → r .outcome .answer .number ≡ 9
+  long-number h = ap (λ (o : Outcome). o .answer .number) (not-begun 8 (refusal-long s (world state m) h) .0)
+
+  -- 9 exactly for a recording that is too long
+  nine : eqb (r .outcome .answer .number) 9 ≡ ltb longest (length s)
+  nine =
+      by (ltb longest (length s))
+      (λ e. eq-eqb (r .outcome .answer .number) 9 (long-number (ltb-true longest (length s) e)) ∙ sym e)
+      (λ e.
+      let n = short-number (ltb-false longest (length s) e) in
+      ne-eqb (r .outcome .answer .number) 9 (λ q. omega arith) ∙ sym e)
+
+  -- No memory's length changes
+  lengths : (p : Place) → length (bytesOf p m′) ≡ length (bytesOf p m)
+  lengths p =
+      by-refusal (replayRefusal s (world state m))
+      (λ z. rw (begun-memory z) (all-keep-lengths (split s .items) (world state m) p))
+      (λ k n. ap (λ (x : Memory). length (bytesOf p x)) (not-begun k n .1))
+
+-- Two replays of the same records
+same-left : (state : State) (s t : List ℕ) (m : Memory) (d e : List ℕ) (r q : Replayed) (s′ t′ : List ℕ) (m′ n′ : Memory) (d′ e′ : List ℕ)
+    → ReplayGives state s m d r s′ m′ d′ → ReplayGives state t m e q t′ n′ e′
+    → replayRefusal s (world state m) ≡ 0 → replayRefusal t (world state m) ≡ 0 → split t .items ≡ split s .items
+    → SameLeft r q m′ n′
+same-left state s t m d e r q s′ t′ m′ n′ d′ e′ g h y z i =
+    let a = begun-outcome state s m d r s′ m′ d′ g y in
+    let b = begun-outcome state t m e q t′ n′ e′ h z in
+    let w = world state m in
+    record {
+      count = ap (λ (o : Outcome). o .answer .count) a ∙ ap length (sym i) ∙ ap (λ (o : Outcome). o .answer .count) (sym b);
+      state =
+          ap (λ (o : Outcome). o .state) a
+          ∙ ap (λ (rs : List Record). afterAll rs w .state) (sym i)
+          ∙ ap (λ (o : Outcome). o .state) (sym b);
+      memory =
+          begun-memory state s m d r s′ m′ d′ g y
+          ∙ ap (λ (rs : List Record). afterAll rs w .memory) (sym i)
+          ∙ sym (begun-memory state t m e q t′ n′ e′ h z);
+    }
+
+-- A text that has room stands at the buffer's start
+whole-text : (t d d′ : List ℕ) (n : ℕ) → length t ≤ length d → n ≡ min (length t) (length d) → d′ ≡ take (length d) t ++ drop (length t) d
+    → (take n d′ ≡ t) × (drop n d′ ≡ drop n d)
+whole-text t d d′ n h e b =
+    let l : n ≡ length t = omega arith in
+    let c : d′ ≡ t ++ drop (length t) d = b ∙ rw (take-all (length d) t h) refl in
+    (rw (l, c) (take-append-seam t (drop (length t) d)), rw (l, c) (drop-append-seam t (drop (length t) d)))
+
+-- A buffer that has room for the longest listing holds the whole listing
+pub has-room : (state : State) (s : List ℕ) (m : Memory) (d : List ℕ) (r : Replayed) (s′ : List ℕ) (m′ : Memory) (d′ : List ℕ)
+    → ReplayGives state s m d r s′ m′ d′ → longestListing ≤ length d
+    → (r .written ≤ length d′) × (take (r .written) d′ ≡ replay s (world state m) .text)
+has-room state s m d r s′ m′ d′ g h =
+    let t = replay s (world state m) .text in
+    let fits = listing-size s (world state m) in
+    let x = whole-text t d d′ (r .written) (omega arith) (g .written) (g .listing) .0 in
+    let n : length (take (r .written) d′) ≡ length t = ap length x in
+    (omega (arith, n, length-take (r .written) d′, g .written), x)
+
+module _ (state : State) (s : List ℕ) (m : Memory) (d : List ℕ) (r : Replayed) (s′ : List ℕ) (m′ : Memory) (d′ : List ℕ)
+    (bytes : Bytes s) (g : ReplayGives state s m d r s′ m′ d′) where
+  -- The accepted records are performed, and nothing else is done
+  begun : replayRefusal s (world state m) ≡ 0 → Begun s (world state m) r m′
+  begun z =
+      let w = world state m in
+      let h = short-enough s w z in
+      let x = read-on s h in
+      let o = begun-outcome state s m d r s′ m′ d′ g z in
+      let b = begun-memory state s m d r s′ m′ d′ g z in
+      let n : r .outcome .answer .number ≡ split s .number = ap (λ (o : Outcome). o .answer .number) o in
+      record {
+        items = split s .items;
+        last = x .0;
+        read = rw n (x .1);
+        count = ap (λ (o : Outcome). o .answer .count) o;
+        value = ap (λ (o : Outcome). o .answer .value) o;
+        leaves = λ i. world (o i .state) (b i);
+        succeed = all-succeed (split s .items) w (items-fit s bytes) (items-accepted s) (machine-passes s w z);
+        alone = λ e q t n′ e′ k.
+            let c = accepted-alone s (split s .items) (x .0) (split s .number) h (x .1) in
+            let y = begins-cut s w (x .0) z in (
+              ap (λ (o : Outcome). o .answer .number) (begun-outcome state (take (x .0) s) m e q t n′ e′ k y) ∙ c .1,
+              same-left state s (take (x .0) s) m d e r q s′ t m′ n′ d′ e′ g k z y (c .0),
+            );
+      }
+
+  -- A sound state stays sound, because the records' numbers stand in their bytes
+  keeps-sound : sound state ≡ true → sound (r .outcome .state) ≡ true
+  keeps-sound e =
+      by-refusal (replayRefusal s (world state m))
+      (λ z.
+      rw (begun-outcome state s m d r s′ m′ d′ g z)
+      (all-keep-sound (split s .items) (world state m) (items-fit s bytes) e))
+      (λ k n. rw (not-begun state s m d r s′ m′ d′ g k n .0) e)
+
+-- ---- Every replay
+
+pub every-replay : EveryReplay
+every-replay state s m d r s′ m′ d′ bytes g =
+    let fits = listing-size s (world state m) in
+    record {
+      notBegun = not-begun state s m d r s′ m′ d′ g;
+      begun = begun state s m d r s′ m′ d′ bytes g;
+      nine = nine state s m d r s′ m′ d′ g;
+      keepsSound = keeps-sound state s m d r s′ m′ d′ bytes g;
+      lengths = lengths state s m d r s′ m′ d′ g;
+      size = fits;
+      whole = λ h. whole-text (replay s (world state m) .text) d d′ (r .written) (omega arith) (g .written) (g .listing);
+    }

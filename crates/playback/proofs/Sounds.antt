@@ -1,0 +1,155 @@
+-- Accepted records: their calls succeed, keep a sound state sound, and keep every memory's length.
+use Prim.Native.Nat.{ℕ, zero, suc}
+use mathlib.Core.Path.{_≡_, refl, _∙_}
+use mathlib.Core.Bool.{Bool, true, false}
+use mathlib.Core.List.{List, [], _∷_}
+use native.Mathlib.Omega.{arith}
+use lib.ListN.{length}
+use Rattle.words.specs.Memory.{Memory, Place, bytesOf, wordBytes}
+use Rattle.words.proofs.Bytes.{stored-length}
+use Rattle.sp.specs.Turn.{memoryAfter, spTaken}
+use Rattle.sp.proofs.Turn.{memory-length}
+use Rattle.machine.specs.declared.State.{State}
+use Rattle.machine.specs.Sound.{sound}
+use Rattle.machine.specs.Refusals.{check, rdramAllowed, bankAllowed, stateRefusal, accessRefusal, spRefusal, dpRefusal, ifRefused}
+use Rattle.machine.specs.Runs.{spRunMemory}
+use Rattle.machine.proofs.Sound.{facts}
+use Rattle.machine.proofs.Refusals.{sp-checked, read-answers, write-answers, tick-answers, break-answers, acknowledge-answers, sp-run-answers, dp-run-answers}
+use Rattle.machine.proofs.Kept.{calls-keep-sound}
+use Rattle.laws.specs.World.{World}
+use Rattle.laws.proofs.Answers.{sp-alike}
+use Rattle.recording.specs.declared.Record.{Record}
+use Rattle.recording.specs.declared.Record.the-variants.{None, Write, Read, SpRun, DpRun, Tick, Break, Acknowledge, Store, Check}
+use Rattle.recording.specs.Kinds.{bodySize, recordOf}
+use Rattle.recording.specs.Reader.{registerNumber, addressNumber, recordNumber}
+use Rattle.recording.specs.Split.{Split, stops, precedes, splitFrom, split, Fits, AllFit}
+use Rattle.recording.proofs.Accepted.{accepted-address}
+use Rattle.playback.specs.Effects.{placeAt, offsetAt, storeAt, room, after}
+use Rattle.playback.specs.Replay.{afterAll}
+use Rattle.playback.specs.Theorems.{callNumber, Succeed}
+
+-- ---- Addresses
+
+-- Each record's address passes its check
+abbrev pub AllAccepted : List Record → Type 0
+AllAccepted [] = Unit {0}
+AllAccepted (r ∷ rs) = (addressNumber r ≡ 0) × AllAccepted rs
+
+by-number : (n : ℕ) (r : Record) (x : Split) → (n ≡ 0 → addressNumber r ≡ 0) → AllAccepted (x .items)
+    → AllAccepted (ifRefused n (stops n) (precedes r x) .items)
+by-number zero r x h k = (h refl, k)
+by-number (suc n) r x h k = tt
+
+from-accepted : (k : ℕ) (s : List ℕ) → AllAccepted (splitFrom k s .items)
+unfolding splitFrom
+from-accepted k [] = tt
+from-accepted zero (b ∷ s) =
+    by-number (recordNumber (b ∷ s)) (recordOf (b ∷ s)) (splitFrom (bodySize b) s) (accepted-address (b ∷ s)) (from-accepted (bodySize b) s)
+from-accepted (suc k) (b ∷ s) = from-accepted k s
+
+pub items-accepted : (s : List ℕ) → AllAccepted (split s .items)
+items-accepted s = from-accepted 0 s
+
+-- ---- Soundness
+
+pub keeps-sound : (r : Record) (w : World) → Fits r → sound (w .state) ≡ true → sound (after r w .state) ≡ true
+unfolding after
+keeps-sound None w f e = e
+keeps-sound (Write a v) w f e = calls-keep-sound (w .state) e .write a v f
+keeps-sound (Read a v) w f e = calls-keep-sound (w .state) e .read a
+keeps-sound (SpRun budget) w f e = calls-keep-sound (w .state) e .spRun budget (w .memory)
+keeps-sound (DpRun budget) w f e = calls-keep-sound (w .state) e .dpRun budget (w .memory .rdram) (w .memory .dmem) room
+keeps-sound (Tick n) w f e = calls-keep-sound (w .state) e .tick n
+keeps-sound Break w f e = calls-keep-sound (w .state) e .break
+keeps-sound Acknowledge w f e = calls-keep-sound (w .state) e .acknowledge
+keeps-sound (Store a word) w f e = e
+keeps-sound (Check a word) w f e = e
+
+pub all-keep-sound : (rs : List Record) (w : World) → AllFit rs → sound (w .state) ≡ true → sound (afterAll rs w .state) ≡ true
+unfolding afterAll
+all-keep-sound [] w f e = e
+all-keep-sound (r ∷ rs) w f e = all-keep-sound rs (after r w) (f .1) (keeps-sound r w (f .0) e)
+
+-- ---- Lengths of memory
+
+-- A declined run leaves the memory as it was
+either-length : (n : ℕ) (m m′ : Memory) (p : Place) → length (bytesOf p m′) ≡ length (bytesOf p m)
+    → length (bytesOf p (ifRefused n m m′)) ≡ length (bytesOf p m)
+either-length zero m m′ p h = h
+either-length (suc n) m m′ p h = refl
+
+run-length : (s : State) (budget : ℕ) (m : Memory) (p : Place) → length (bytesOf p (spRunMemory s budget m)) ≡ length (bytesOf p m)
+unfolding spRunMemory
+run-length s budget m p =
+    let n = spTaken budget (s .sp) in
+    either-length (spRefusal s m) m (memoryAfter n (s .sp) m) p (memory-length n (s .sp) m p)
+
+store-at-length : (a word : ℕ) (m : Memory) (p : Place) → length (bytesOf p (storeAt a word m)) ≡ length (bytesOf p m)
+unfolding storeAt
+store-at-length a word m p = stored-length (placeAt a) (offsetAt a) (wordBytes word) m p
+
+pub keeps-lengths : (r : Record) (w : World) (p : Place) → length (bytesOf p (after r w .memory)) ≡ length (bytesOf p (w .memory))
+unfolding after
+keeps-lengths None w p = refl
+keeps-lengths (Write a v) w p = refl
+keeps-lengths (Read a v) w p = refl
+keeps-lengths (SpRun budget) w p = run-length (w .state) budget (w .memory) p
+keeps-lengths (DpRun budget) w p = refl
+keeps-lengths (Tick n) w p = refl
+keeps-lengths Break w p = refl
+keeps-lengths Acknowledge w p = refl
+keeps-lengths (Store a word) w p = store-at-length a word (w .memory) p
+keeps-lengths (Check a word) w p = refl
+
+pub all-keep-lengths : (rs : List Record) (w : World) (p : Place) → length (bytesOf p (afterAll rs w .memory)) ≡ length (bytesOf p (w .memory))
+unfolding afterAll
+all-keep-lengths [] w p = refl
+all-keep-lengths (r ∷ rs) w p = all-keep-lengths rs (after r w) p ∙ keeps-lengths r w p
+
+-- ---- Success
+
+-- The checks of the calls, over an input that passes those of an SP call
+state-passes : (s : State) → sound s ≡ true → stateRefusal s ≡ 0
+unfolding stateRefusal
+state-passes s e = rw e
+
+access-passes : (s : State) (a : ℕ) → sound s ≡ true → registerNumber a ≡ 0 → accessRefusal s a ≡ 0
+unfolding accessRefusal
+access-passes s a e h = rw e h
+
+-- A DP call checks a part of what an SP call checks
+fewer : (r d i s : Bool) → check r 1 (check d 2 (check i 3 (check s 4 0))) ≡ 0 → check r 1 (check d 2 (check s 4 0)) ≡ 0
+fewer true true true s e = e
+fewer true true false s e = absurd (let z : _≡_ {A = ℕ} 3 0 = e in omega arith)
+fewer true false i s e = e
+fewer false d i s e = e
+
+dp-passes : (s : State) (m : Memory) → spRefusal s m ≡ 0 → dpRefusal s (m .rdram) (m .dmem) ≡ 0
+unfolding spRefusal dpRefusal
+dp-passes s m e =
+    fewer (rdramAllowed (length (m .rdram))) (bankAllowed (length (m .dmem))) (bankAllowed (length (m .imem))) (sound s) e
+
+pub succeeds : (r : Record) (w : World) → addressNumber r ≡ 0 → spRefusal (w .state) (w .memory) ≡ 0 → callNumber r w ≡ 0
+succeeds None w h z = refl
+succeeds (Write a v) w h z = write-answers (w .state) a v .number ∙ access-passes (w .state) a (sp-checked (w .state) (w .memory) z) h
+succeeds (Read a v) w h z = read-answers (w .state) a .number ∙ access-passes (w .state) a (sp-checked (w .state) (w .memory) z) h
+succeeds (SpRun budget) w h z = sp-run-answers (w .state) budget (w .memory) .number ∙ z
+succeeds (DpRun budget) w h z =
+    dp-run-answers (w .state) budget (w .memory .rdram) (w .memory .dmem) room .number ∙ dp-passes (w .state) (w .memory) z
+succeeds (Tick n) w h z = tick-answers (w .state) n .number ∙ state-passes (w .state) (sp-checked (w .state) (w .memory) z)
+succeeds Break w h z = break-answers (w .state) .number ∙ state-passes (w .state) (sp-checked (w .state) (w .memory) z)
+succeeds Acknowledge w h z = acknowledge-answers (w .state) .number ∙ state-passes (w .state) (sp-checked (w .state) (w .memory) z)
+succeeds (Store a word) w h z = refl
+succeeds (Check a word) w h z = refl
+
+-- A record leaves an input that passes the checks again
+passes-again : (r : Record) (w : World) → Fits r → spRefusal (w .state) (w .memory) ≡ 0 → spRefusal (after r w .state) (after r w .memory) ≡ 0
+passes-again r w f z =
+    let e = sp-checked (w .state) (w .memory) z in
+    sp-alike (after r w .state) (w .state) (after r w .memory) (w .memory) (facts (after r w .state) (keeps-sound r w f e)) (facts (w .state) e)
+    (keeps-lengths r w)
+    ∙ z
+
+pub all-succeed : (rs : List Record) (w : World) → AllFit rs → AllAccepted rs → spRefusal (w .state) (w .memory) ≡ 0 → Succeed rs w
+all-succeed [] w f a z = tt
+all-succeed (r ∷ rs) w f a z = (succeeds r w (a .0) z, all-succeed rs (after r w) (f .1) (a .1) (passes-again r w (f .0) z))

@@ -1,0 +1,158 @@
+-- The loop of a replay: whoever finishes from where it stands has finished the whole.
+use Prim.Native.Nat.{ℕ, suc, _+_, _≤_, _<_}
+use mathlib.Core.Path.{_≡_, refl, sym, ap, _∙_}
+use mathlib.Core.Bool.{Bool, true, false}
+use mathlib.Core.List.{List, _++_, append-assoc}
+use native.Mathlib.Omega.{arith}
+use native.Mathlib.Nat.{add-zero, zero-add}
+use lib.Dec.{leb}
+use lib.ListN.{length, drop}
+use borrow.Author.Tests.{leb-true}
+use Rattle.words.specs.Memory.{Memory}
+use Rattle.machine.specs.declared.State.{State}
+use Rattle.machine.specs.Refusals.{check, spRefusal}
+use Rattle.machine.proofs.Refusals.{if-accepted, if-refused}
+use Rattle.laws.specs.World.{World, world}
+use Rattle.recording.specs.declared.Record.{Record}
+use Rattle.recording.specs.declared.Reading.{Reading}
+use Rattle.recording.specs.Reader.{longest, readRecord}
+use Rattle.recording.specs.Split.{Split, stops, precedes, split}
+use Rattle.recording.proofs.Splitting.{split-none, split-next, split-stops}
+use Rattle.listing.specs.Text.{header, endLine, stopLine}
+use Rattle.listing.specs.Put.{Put}
+use Rattle.listing.proofs.Putting.{_then_, from-start}
+use Rattle.playback.specs.declared.Replayed.{Replayed}
+use Rattle.playback.specs.Effects.{after, line}
+use Rattle.playback.specs.Replay.{Played, afterAll, lines, lastLine, ending, played, notPlayed, headed, replayRefusal, replay}
+use Rattle.playback.specs.Promised.{ReplayGives, PerformGives, PlayGives}
+
+-- ---- From a place on
+
+-- The records of x were performed, where k records were accepted before them, and the last line was written
+pub record From (k : ℕ) (x : Split) (w : World) (d : List ℕ) (at : ℕ) (r : Replayed) (m′ : Memory) (d′ : List ℕ) : Type 0 where
+  pub outcome : r .outcome ≡ ending (afterAll (x .items) w .state) (x .number) (k + length (x .items))
+  pub bytes : m′ ≡ afterAll (x .items) w .memory
+  pub listed : Put d at (lines (x .items) w ++ lastLine (x .number) (k + length (x .items))) d′ (r .written)
+
+-- Whoever finishes from the first has finished the second
+abbrev pub Leads : ℕ → Split → World → List ℕ → ℕ → ℕ → Split → World → List ℕ → ℕ → Type 0
+Leads k x w d at k₀ x₀ w₀ d₀ at₀ = (r : Replayed) (m′ : Memory) (d′ : List ℕ) → From k x w d at r m′ d′ → From k₀ x₀ w₀ d₀ at₀ r m′ d′
+
+-- ---- One record
+
+counted : (k n : ℕ) → k + 1 + n ≡ k + suc n
+counted k n = omega arith
+
+-- A record that was performed stands before the rest
+before : (item : Record) (x : Split) (k : ℕ) (w : World) {d d₁ : List ℕ} {p p₁ : ℕ} → Put d p (line item w) d₁ p₁
+    → Leads (k + 1) x (after item w) d₁ p₁ k (precedes item x) w d p
+unfolding afterAll lines
+before item x k w {d} {d₁} {p} {p₁} put r m′ d′ f =
+    let n : k + 1 + length (x .items) ≡ k + suc (length (x .items)) = counted k (length (x .items)) in
+    record {
+      outcome = f .outcome ∙ ap (ending (afterAll (x .items) (after item w) .state) (x .number)) n;
+      bytes = f .bytes;
+      listed =
+          rw (append-assoc (line item w) (lines (x .items) (after item w)) (lastLine (x .number) (k + suc (length (x .items)))), ← n)
+          (put then f .listed);
+    }
+
+performed : (item : Record) (x : Split) (k : ℕ) (w w′ : World) {d d₁ : List ℕ} {p p₁ : ℕ} → PerformGives item w d p w′ d₁ p₁
+    → Leads (k + 1) x w′ d₁ p₁ k (precedes item x) w d p
+performed item x k w w′ g = rw (g .leaves) (before item x k w (g .listed))
+
+-- The reader accepted the record at a place, and it was performed
+pub next-record : (s : List ℕ) (at k : ℕ) (n : Reading) (w w′ : World) {d d₁ : List ℕ} {p p₁ : ℕ}
+    → length s ≤ longest → n ≡ readRecord s at → n .number ≡ 0 → PerformGives (n .item) w d p w′ d₁ p₁
+    → Leads (k + 1) (split (drop (n .place) s)) w′ d₁ p₁ k (split (drop at s)) w d p
+next-record s at k n w w′ h e z g =
+    let q : split (drop at s) ≡ precedes (n .item) (split (drop (n .place) s)) =
+    split-next s at h (ap (λ (f : Reading). f .number) (sym e) ∙ z)
+    ∙ ap (λ (f : Reading). precedes (f .item) (split (drop (f .place) s))) (sym e) in
+    rw q (performed (n .item) (split (drop (n .place) s)) k w w′ g)
+
+-- ---- The last line
+
+-- Nothing is performed any more
+last : (number k : ℕ) (state : State) (m : Memory) (r : Replayed) {d d′ : List ℕ} {p q : ℕ} → Put d p (lastLine number k) d′ q
+    → r .outcome ≡ ending state number k → r .written ≡ q → From k (stops number) (world state m) d p r m d′
+unfolding afterAll lines
+last number k state m r put o t = record { outcome = rw (add-zero k) o; bytes = refl; listed = rw (add-zero k, t) put }
+
+-- The reader declined the record at a place
+pub stopped : (s : List ℕ) (at k : ℕ) (n : Reading) (state : State) (m : Memory) (r : Replayed) {d d′ : List ℕ} {p q : ℕ}
+    → length s ≤ longest → at < length s → n ≡ readRecord s at → (n .number ≡ 0 → ⊥) → Put d p (stopLine k (n .number)) d′ q
+    → r .outcome ≡ ending state (n .number) k → r .written ≡ q → From k (split (drop at s)) (world state m) d p r m d′
+stopped s at k n state m r {d} {d′} {p} {q} h l e z put o t =
+    let number : n .number ≡ readRecord s at .number = ap (λ (f : Reading). f .number) e in
+    let c : split (drop at s) ≡ stops (n .number) = split-stops s at h l (λ y. z (number ∙ y)) ∙ ap stops (sym number) in
+    rw c (last (n .number) k state m r (rw (if-refused (n .number) (stopLine k (n .number)) (endLine k) z) put) o t)
+
+-- No record is left
+pub finished : (s : List ℕ) (at k : ℕ) (state : State) (m : Memory) (r : Replayed) {d d′ : List ℕ} {p q : ℕ}
+    → length s ≤ at → Put d p (endLine k) d′ q → r .outcome ≡ ending state 0 k → r .written ≡ q
+    → From k (split (drop at s)) (world state m) d p r m d′
+finished s at k state m r h put o t = rw (split-none s at h) (last 0 k state m r put o t)
+
+-- ---- The whole
+
+-- With no record accepted before
+from-none : (x : Split) (w : World) (d : List ℕ) (at : ℕ) (r : Replayed) (m′ : Memory) (d′ : List ℕ) → From 0 x w d at r m′ d′
+    → PlayGives x w d at r m′ d′
+from-none x w d at r m′ d′ f =
+    let n : 0 + length (x .items) ≡ length (x .items) = zero-add (length (x .items)) in
+    record { outcome = rw n at (f .outcome); bytes = f .bytes; listed = rw n at (f .listed) }
+
+pub plays : (s : List ℕ) (w : World) {d : List ℕ} {at : ℕ} {r : Replayed} {m′ : Memory} {d′ : List ℕ}
+    → From 0 (split (drop 0 s)) w d at r m′ d′ → PlayGives (split s) w d at r m′ d′
+plays s w {d} {at} {r} {m′} {d′} f = from-none (split s) w d at r m′ d′ f
+
+-- A replay that begins has a recording that is short enough
+pub short-enough : (s : List ℕ) (w : World) → replayRefusal s w ≡ 0 → length s ≤ longest
+unfolding replayRefusal
+short-enough s w h = leb-true (length s) longest (short (leb (length s) longest) (spRefusal (w .state) (w .memory)) h)
+  where
+    short : (t : Bool) (n : ℕ) → check t 9 n ≡ 0 → t ≡ true
+    short true n h = refl
+    short false n h = absurd (let z : _≡_ {A = ℕ} 9 0 = h in omega arith)
+
+-- A result that was listed from the buffer's start on
+gives : (state : State) (s : List ℕ) (m : Memory) (d : List ℕ) (r : Replayed) (s′ : List ℕ) (m′ : Memory) (d′ : List ℕ) (x : Played)
+    → replay s (world state m) ≡ x → r .outcome ≡ x .outcome → m′ ≡ x .memory → Put d 0 (x .text) d′ (r .written) → s′ ≡ s
+    → ReplayGives state s m d r s′ m′ d′
+gives state s m d r s′ m′ d′ x e o b put k =
+    let l = from-start put in
+    let t : x .text ≡ replay s (world state m) .text = ap (λ (y : Played). y .text) (sym e) in
+    record {
+      outcome = o ∙ ap (λ (y : Played). y .outcome) (sym e);
+      bytes = b ∙ ap (λ (y : Played). y .memory) (sym e);
+      written = rw (← t) (l .0);
+      listing = rw (← t) (l .1);
+      recordingKept = k;
+    }
+
+-- What is replayed, by the number of the checks
+pub replay-begun : (s : List ℕ) (w : World) → replayRefusal s w ≡ 0 → replay s w ≡ headed (played (split s) w)
+unfolding replay
+replay-begun s w h = ap headed (if-accepted (replayRefusal s w) (notPlayed (replayRefusal s w) w) (played (split s) w) h)
+
+pub replay-not : (s : List ℕ) (w : World) → (replayRefusal s w ≡ 0 → ⊥) → replay s w ≡ headed (notPlayed (replayRefusal s w) w)
+unfolding replay
+replay-not s w h = ap headed (if-refused (replayRefusal s w) (notPlayed (replayRefusal s w) w) (played (split s) w) h)
+
+-- It begins
+pub replays-begun : (state : State) (s : List ℕ) (m : Memory) {d d₁ : List ℕ} {p : ℕ} {r : Replayed} {s′ : List ℕ} {m′ : Memory} {d′ : List ℕ}
+    → replayRefusal s (world state m) ≡ 0 → Put d 0 header d₁ p → PlayGives (split s) (world state m) d₁ p r m′ d′ → s′ ≡ s
+    → ReplayGives state s m d r s′ m′ d′
+replays-begun state s m {d} {d₁} {p} {r} {s′} {m′} {d′} h put g k =
+    gives state s m d r s′ m′ d′ (headed (played (split s) (world state m))) (replay-begun s (world state m) h)
+    (g .outcome) (g .bytes) (put then g .listed) k
+
+-- It does not
+pub replays-not : (state : State) (s : List ℕ) (m : Memory) (n : ℕ) {d d₁ : List ℕ} {p q : ℕ} {r : Replayed} {s′ d′ : List ℕ}
+    → n ≡ replayRefusal s (world state m) → (n ≡ 0 → ⊥) → Put d 0 header d₁ p → Put d₁ p (stopLine 0 n) d′ q
+    → r .outcome ≡ ending state n 0 → r .written ≡ q → s′ ≡ s → ReplayGives state s m d r s′ m d′
+replays-not state s m n {d} {d₁} {p} {q} {r} {s′} {d′} e z put stop o t k =
+    gives state s m d r s′ m d′ (headed (notPlayed n (world state m)))
+    (replay-not s (world state m) (λ y. z (e ∙ y)) ∙ ap (λ (i : ℕ). headed (notPlayed i (world state m))) (sym e))
+    o refl (rw t (put then stop)) k

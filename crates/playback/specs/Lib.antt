@@ -1,0 +1,6 @@
+pub mod Effects
+pub mod Stores
+pub mod Replay
+pub mod Promised
+pub mod Theorems
+pub mod Case

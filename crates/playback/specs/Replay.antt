@@ -1,0 +1,63 @@
+-- Replaying a recording.
+use Prim.Native.Nat.{ℕ, _+_}
+use mathlib.Core.List.{List, [], _∷_, _++_}
+use lib.Dec.{leb}
+use lib.ListN.{length}
+use Rattle.words.specs.Memory.{Memory}
+use Rattle.machine.specs.declared.State.{State}
+use Rattle.machine.specs.declared.Outcome.{Outcome}
+use Rattle.machine.specs.Refusals.{check, spRefusal, declined, ifRefused}
+use Rattle.laws.specs.World.{World}
+use Rattle.recording.specs.declared.Record.{Record}
+use Rattle.recording.specs.Reader.{longest}
+use Rattle.recording.specs.Split.{Split, split}
+use Rattle.listing.specs.Text.{Text, header, endLine, stopLine}
+use Rattle.playback.specs.Effects.{after, line}
+
+-- What records leave, one after the other
+unfoldable pub afterAll : List Record → World → World
+afterAll [] w = w
+afterAll (r ∷ rs) w = afterAll rs (after r w)
+
+-- The lines that they write
+unfoldable pub lines : List Record → World → Text
+lines [] w = []
+lines (r ∷ rs) w = line r w ++ lines rs (after r w)
+
+-- The last line: `stop`, or `end` where the number is 0
+abbrev pub lastLine : ℕ → ℕ → Text
+lastLine number count = ifRefused number (stopLine count number) (endLine count)
+
+-- How a replay ends: number, value, count and state; every lent byte of memory; the listing
+pub record Played : Type 0 where
+  pub outcome : Outcome
+  pub memory : Memory
+  pub text : Text
+
+abbrev pub ending : State → ℕ → ℕ → Outcome
+ending s number count = record { state = s; answer = record { number = number; value = 0; count = count } }
+
+-- The accepted records are performed. What the declined one would do is not done
+abbrev pub played : Split → World → Played
+played x w =
+    record {
+      outcome = ending (afterAll (x .items) w .state) (x .number) (length (x .items));
+      memory = afterAll (x .items) w .memory;
+      text = lines (x .items) w ++ lastLine (x .number) (length (x .items));
+    }
+
+-- The checks before the first record: 9, then 1, 2, 3 and 4
+unfoldable pub replayRefusal : List ℕ → World → ℕ
+replayRefusal s w = check (leb (length s) longest) 9 (spRefusal (w .state) (w .memory))
+
+-- A replay that does not begin changes nothing
+abbrev pub notPlayed : ℕ → World → Played
+notPlayed number w = record { outcome = declined (w .state) number; memory = w .memory; text = stopLine 0 number }
+
+-- The first line goes before
+abbrev pub headed : Played → Played
+headed p = record { outcome = p .outcome; memory = p .memory; text = header ++ p .text }
+
+-- The recording s is replayed
+unfoldable pub replay : List ℕ → World → Played
+replay s w = headed (ifRefused (replayRefusal s w) (notPlayed (replayRefusal s w) w) (played (split s) w))

@@ -1,0 +1,90 @@
+-- The theorems of a replay, of whatever code meets its promise (ReplayGives).
+use Prim.Native.Nat.{ℕ, suc, _<_, _≤_}
+use mathlib.Core.Path.{_≡_}
+use mathlib.Core.Bool.{true}
+use mathlib.Core.List.{List, [], _∷_}
+use lib.Dec.{ltb, eqb}
+use lib.ListN.{length, getD, take, drop}
+use Rattle.words.specs.Memory.{Memory, Place, bytesOf}
+use Rattle.machine.specs.declared.State.{State}
+use Rattle.machine.specs.Sound.{sound}
+use Rattle.machine.specs.Refusals.{declined}
+use Rattle.machine.specs.Calls.{readRegister, writeRegister, tick, break, acknowledge}
+use Rattle.machine.specs.Runs.{spRun}
+use Rattle.laws.specs.World.{World, world}
+use Rattle.recording.specs.declared.Record.{Record}
+use Rattle.recording.specs.declared.Record.the-variants.{None, Write, Read, SpRun, DpRun, Tick, Break, Acknowledge, Store, Check}
+use Rattle.recording.specs.Split.{ReadOn}
+use Rattle.playback.specs.declared.Replayed.{Replayed}
+use Rattle.playback.specs.Effects.{replayDpRun, after}
+use Rattle.playback.specs.Replay.{afterAll, replayRefusal, replay}
+use Rattle.playback.specs.Promised.{ReplayGives}
+
+-- The number that a record's call answers; stores and checks of memory are no calls
+abbrev pub callNumber : Record → World → ℕ
+callNumber None w = 0
+callNumber (Write a v) w = writeRegister (w .state) a v .answer .number
+callNumber (Read a v) w = readRegister (w .state) a .answer .number
+callNumber (SpRun budget) w = spRun (w .state) budget (w .memory) .answer .number
+callNumber (DpRun budget) w = replayDpRun (w .state) budget (w .memory) .answer .number
+callNumber (Tick n) w = tick (w .state) n .answer .number
+callNumber Break w = break (w .state) .answer .number
+callNumber Acknowledge w = acknowledge (w .state) .answer .number
+callNumber (Store a word) w = 0
+callNumber (Check a word) w = 0
+
+-- Each record's call succeeds in the world that the records before it left
+abbrev pub Succeed : List Record → World → Type 0
+Succeed [] w = Unit {0}
+Succeed (r ∷ rs) w = (callNumber r w ≡ 0) × Succeed rs (after r w)
+
+-- Two replays left the same: count, state and memory
+pub record SameLeft (r r′ : Replayed) (m m′ : Memory) : Type 0 where
+  pub count : r .outcome .answer .count ≡ r′ .outcome .answer .count
+  pub state : r .outcome .state ≡ r′ .outcome .state
+  pub memory : m ≡ m′
+
+-- A replay of s in the world w that began, gave r and left the memory m′
+pub record Begun (s : List ℕ) (w : World) (r : Replayed) (m′ : Memory) : Type 0 where
+  -- The records as the reader splits the recording: it accepts these, up to the place `last`, and declines the next one with the number given
+  -- back; where that is 0, none is left
+  pub items : List Record
+  pub last : ℕ
+  pub read : ReadOn s 0 items last (r .outcome .answer .number)
+  pub count : r .outcome .answer .count ≡ length items
+  pub value : r .outcome .answer .value ≡ 0
+  -- What the accepted records leave is left, and nothing else is done
+  pub leaves : world (r .outcome .state) m′ ≡ afterAll items w
+  -- The call of each accepted record answers 0
+  pub succeed : Succeed items w
+  -- Replaying the accepted records alone succeeds, and leaves the same
+  pub alone : (d : List ℕ) (r′ : Replayed) (s₁ : List ℕ) (m₁ : Memory) (d₁ : List ℕ)
+      → ReplayGives (w .state) (take last s) (w .memory) d r′ s₁ m₁ d₁ → (r′ .outcome .answer .number ≡ 0) × SameLeft r r′ m′ m₁
+
+-- The listing never has more bytes than this
+abbrev pub longestListing : ℕ
+longestListing = 69198
+
+-- The recording s was replayed from a state over the memory m and the buffer d; it gave r and left m′ and d′
+pub record ReplayGiven (state : State) (s : List ℕ) (m : Memory) (d : List ℕ) (r : Replayed) (m′ : Memory) (d′ : List ℕ) : Type 0 where
+  -- Declined by 9, 1, 2, 3 or 4 before its first record: nothing is done
+  pub notBegun : (n : ℕ) → replayRefusal s (world state m) ≡ suc n → (r .outcome ≡ declined state (suc n)) × (m′ ≡ m)
+  pub begun : replayRefusal s (world state m) ≡ 0 → Begun s (world state m) r m′
+  -- 9 exactly where the recording is longer than 16,383 bytes
+  pub nine : eqb (r .outcome .answer .number) 9 ≡ ltb 16383 (length s)
+  -- A sound state stays sound, and every memory keeps its length
+  pub keepsSound : sound state ≡ true → sound (r .outcome .state) ≡ true
+  pub lengths : (p : Place) → length (bytesOf p m′) ≡ length (bytesOf p m)
+  -- Where the buffer has room for the longest listing, the whole listing stands at its start, and the bytes after it are as before
+  pub size : length (replay s (world state m) .text) ≤ longestListing
+  pub whole : longestListing ≤ length d
+      → (take (r .written) d′ ≡ replay s (world state m) .text) × (drop (r .written) d′ ≡ drop (r .written) d)
+
+-- A recording is a list of bytes
+abbrev pub Bytes : List ℕ → Type 0
+Bytes s = (i : ℕ) → getD s i 0 < 256
+
+-- It holds of every replay
+abbrev pub EveryReplay : Type 0
+EveryReplay = (state : State) (s : List ℕ) (m : Memory) (d : List ℕ) (r : Replayed) (s′ : List ℕ) (m′ : Memory) (d′ : List ℕ)
+    → Bytes s → ReplayGives state s m d r s′ m′ d′ → ReplayGiven state s m d r m′ d′

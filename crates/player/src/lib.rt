@@ -1,0 +1,6 @@
+// Replays a recording over a state and lent memory.
+mod effects; // effects.rt: what each record does, and its line
+mod playing; // playing.rt: the records of a recording, one after the other
+mod stored; // stored.rt: words of memory by the addresses of kinds 8 and 9
+
+pub use playing::replay;

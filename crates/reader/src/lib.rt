@@ -1,0 +1,5 @@
+// The reader of recordings.
+mod fields; // fields.rt: the bytes of a record, and the record that they make
+mod records; // records.rt: the checks of a record, and the reader
+
+pub use records::read_record;

@@ -1,0 +1,347 @@
+-- A recording is split as the reader reads it, one record after another.
+use Prim.Native.Nat.{ℕ, zero, suc, _+_, _-_, _*_, _<_, _≤_, min}
+use mathlib.Core.Path.{_≡_, refl, sym, ap, _∙_}
+use mathlib.Core.Bool.{Bool, cond}
+use mathlib.Core.List.{List, [], _∷_}
+use native.Mathlib.Omega.{arith}
+use native.Mathlib.Nat.{zero-sub, sub-zero, suc-sub-suc}
+use native.Mathlib.Numerals.{one-add}
+use lib.Dec.{ltb}
+use lib.ListN.{length, getD, take, drop, length-drop, length-take}
+use lib.Seq.{drop-drop, getD-take, length-take-le, take-nil}
+use borrow.Author.Tests.{ltb-true, ltb-false, le-ltb, le-leb, lt-ltb}
+use Rattle.words.proofs.Tests.{by}
+use Rattle.machine.specs.Refusals.{ifRefused}
+use Rattle.machine.proofs.Refusals.{if-accepted, if-refused}
+use Rattle.recording.specs.declared.Record.{Record}
+use Rattle.recording.specs.declared.Reading.{Reading}
+use Rattle.recording.specs.Kinds.{byte, joined, four, eight, bodySize, size, decoded, kindOf, recordOf}
+use Rattle.recording.specs.Reader.{recordNumber, found, first, longest, readRecord}
+use Rattle.recording.specs.Split.{Split, stops, precedes, splitFrom, split, ReadOn, Fits, AllFit}
+use Rattle.recording.specs.Split.ReadOn.{atEnd, declines, reads}
+use Rattle.recording.proofs.Accepted.{accepted-kind, accepted-whole, accepted-address}
+use Rattle.recording.proofs.Numbers.{read-number, declined-reading, record-at-most}
+
+-- ---- The records of bytes
+
+-- A body that is passed over is dropped
+skipped : (k : ℕ) (s : List ℕ) → splitFrom k s ≡ split (drop k s)
+unfolding splitFrom
+skipped zero s = refl
+skipped (suc k) [] = refl
+skipped (suc k) (b ∷ s) = skipped k s
+
+split-empty : (s : List ℕ) → length s ≤ 0 → split s ≡ stops 0
+unfolding splitFrom
+split-empty [] h = refl
+split-empty (b ∷ s) h = absurd (omega arith)
+
+split-accepted : (s : List ℕ) → recordNumber s ≡ 0 → split s ≡ precedes (recordOf s) (split (drop (size (kindOf s)) s))
+unfolding splitFrom
+split-accepted [] e = absurd (omega (arith, accepted-whole [] e))
+split-accepted (b ∷ s) e =
+    if-accepted (recordNumber (b ∷ s)) _ _ e
+    ∙ rw (one-add (bodySize b)) (ap (precedes (recordOf (b ∷ s))) (skipped (bodySize b) s))
+
+split-declined : (s : List ℕ) (n : ℕ) → 0 < length s → recordNumber s ≡ suc n → split s ≡ stops (suc n)
+unfolding splitFrom
+split-declined [] n h e = absurd (omega arith)
+split-declined (b ∷ s) n h e = if-refused (recordNumber (b ∷ s)) _ _ (λ z. omega arith) ∙ ap stops e
+
+-- ---- The reader
+
+short : (s : List ℕ) (at : ℕ) → length s ≤ longest → readRecord s at .number ≡ recordNumber (drop at s)
+short s at h = read-number s at ∙ ap (λ (b : Bool). cond b 9 (recordNumber (drop at s))) (le-ltb longest (length s) h)
+
+read-accepted : (s : List ℕ) (at : ℕ) → length s ≤ longest → recordNumber (drop at s) ≡ 0
+    → readRecord s at ≡ found (recordOf (drop at s)) (at + size (kindOf (drop at s)))
+unfolding readRecord first
+read-accepted s at h e = rw (le-ltb longest (length s) h, e)
+
+-- ---- The splitting and the reader
+
+pub split-none : (s : List ℕ) (at : ℕ) → length s ≤ at → split (drop at s) ≡ stops 0
+split-none s at h = split-empty (drop at s) (simp length-drop (omega arith))
+
+pub split-next : (s : List ℕ) (at : ℕ) → length s ≤ longest → readRecord s at .number ≡ 0
+    → split (drop at s) ≡ precedes (readRecord s at .item) (split (drop (readRecord s at .place) s))
+split-next s at h e =
+    let z : recordNumber (drop at s) ≡ 0 = sym (short s at h) ∙ e in
+    split-accepted (drop at s) z
+    ∙ rw (read-accepted s at h z, drop-drop (size (kindOf (drop at s))) at s)
+
+pub split-stops : (s : List ℕ) (at : ℕ) → length s ≤ longest → at < length s → (readRecord s at .number ≡ 0 → ⊥)
+    → split (drop at s) ≡ stops (readRecord s at .number)
+split-stops s at h l not-accepted = go (readRecord s at .number) refl
+  where
+    go : (n : ℕ) → readRecord s at .number ≡ n → split (drop at s) ≡ stops n
+    go zero e = absurd (not-accepted e)
+    go (suc n) e = split-declined (drop at s) n (simp length-drop (omega arith)) (sym (short s at h) ∙ e)
+
+pub moves-on : (s : List ℕ) (at : ℕ) → length s ≤ longest → readRecord s at .number ≡ 0
+    → (at < readRecord s at .place) × (readRecord s at .place ≤ length s)
+moves-on s at h e =
+    let z : recordNumber (drop at s) ≡ 0 = sym (short s at h) ∙ e in
+    let p : readRecord s at .place ≡ at + size (kindOf (drop at s)) = ap (λ (r : Reading). r .place) (read-accepted s at h z) in
+    let w : size (kindOf (drop at s)) ≤ length s - at = rw (length-drop at s) at (accepted-whole (drop at s) z) in
+    rw p (further (bodySize (kindOf (drop at s))) at (length s) w)
+  where
+    further : (n at l : ℕ) → 1 + n ≤ l - at → (at < at + (1 + n)) × (at + (1 + n) ≤ l)
+    further n at l w = (omega arith, omega arith)
+
+-- ---- The reader, called at each place that it gives
+
+-- What is to be proved of the places from `at` on
+abbrev OnFrom : List ℕ → ℕ → Type 0
+OnFrom s at = (last : ℕ) × ReadOn s at (split (drop at s) .items) last (split (drop at s) .number)
+
+module _ (s : List ℕ) (at : ℕ) where
+  at-end : at ≡ length s → OnFrom s at
+  at-end e = (length s, rw (e, split-none s (length s) (omega arith)) atEnd)
+
+  at-declined : (n : ℕ) → length s ≤ longest → at < length s → readRecord s at .number ≡ suc n → OnFrom s at
+  at-declined n h l e =
+      let q : split (drop at s) ≡ stops (suc n) = split-stops s at h l (λ z. omega arith) ∙ ap stops e in
+      (at, rw q (declines l (declined-reading s at n e)))
+
+  found-there : readRecord s at .number ≡ 0 → readRecord s at ≡ found (readRecord s at .item) (readRecord s at .place)
+  found-there e = λ i. record { number = e i; item = readRecord s at .item; place = readRecord s at .place }
+
+  at-record : length s ≤ longest → at < length s → readRecord s at .number ≡ 0 → OnFrom s (readRecord s at .place) → OnFrom s at
+  at-record h l e r = (r .0, rw (split-next s at h e) (reads l (found-there e) (r .1)))
+
+  -- By the three cases
+  at-place : length s ≤ longest → at ≤ length s → (readRecord s at .number ≡ 0 → OnFrom s (readRecord s at .place)) → OnFrom s at
+  at-place h b more =
+      by (ltb at (length s)) (λ l. go (readRecord s at .number) refl (ltb-true at (length s) l))
+      (λ l. at-end (omega (arith, ltb-false at (length s) l)))
+    where
+      go : (n : ℕ) → readRecord s at .number ≡ n → at < length s → OnFrom s at
+      go zero e l = at-record h l e (more e)
+      go (suc n) e l = at-declined n h l e
+
+-- With at least as many steps as there are bytes left
+on-from : (fuel : ℕ) (s : List ℕ) (at : ℕ) → length s ≤ longest → at ≤ length s → length s ≤ at + fuel → OnFrom s at
+on-from zero s at h b f = at-end s at (omega arith)
+on-from (suc fuel) s at h b f =
+    at-place s at h b
+    (λ e.
+    let m = moves-on s at h e in
+    on-from fuel s (readRecord s at .place) h (m .1) (omega (arith, m .0)))
+
+-- Every short recording is read to its end or to a record that is declined, and its records are the split's
+pub read-on : (s : List ℕ) → length s ≤ longest → (last : ℕ) × ReadOn s 0 (split s .items) last (split s .number)
+read-on s h = on-from (length s) s 0 h (omega arith) (omega arith)
+
+-- ---- What was read is determined
+
+same-parts : {s : List ℕ} {at at′ last last′ n n′ : ℕ} {rs rs′ : List Record} → at ≡ at′ → ReadOn s at rs last n → ReadOn s at′ rs′ last′ n′
+    → (rs ≡ rs′) × (last ≡ last′) × (n ≡ n′)
+same-parts e atEnd atEnd = (refl, refl, refl)
+same-parts e atEnd (declines l q) = absurd (omega arith)
+same-parts e atEnd (reads l q x) = absurd (omega arith)
+same-parts e (declines k p) atEnd = absurd (omega arith)
+same-parts {s} e (declines k p) (declines l q) =
+    let both = sym p ∙ ap (readRecord s) e ∙ q in (refl, e, ap (λ (r : Reading). r .number) both)
+same-parts {s} e (declines k p) (reads l q x) =
+    let both = ap (λ (r : Reading). r .number) (sym p ∙ ap (readRecord s) e ∙ q) in absurd (omega arith)
+same-parts e (reads k p y) atEnd = absurd (omega arith)
+same-parts {s} e (reads k p y) (declines l q) =
+    let both = ap (λ (r : Reading). r .number) (sym p ∙ ap (readRecord s) e ∙ q) in absurd (omega arith)
+same-parts {s} e (reads {r = r} k p y) (reads {r = r′} l q x) =
+    let both = sym p ∙ ap (readRecord s) e ∙ q in
+    let rest = same-parts (ap (λ (f : Reading). f .place) both) y x in
+    let item : r ≡ r′ = ap (λ (f : Reading). f .item) both in
+    (λ i. item i ∷ rest .0 i, rest .1, rest .2)
+
+pub reader-alone : (s : List ℕ) (rs rs′ : List Record) (last last′ n n′ : ℕ) → ReadOn s 0 rs last n → ReadOn s 0 rs′ last′ n′
+    → (rs ≡ rs′) × (last ≡ last′) × (n ≡ n′)
+reader-alone s rs rs′ last last′ n n′ x y = same-parts refl x y
+
+-- ---- The accepted records alone
+
+-- The record of a kind by the bytes that it has
+same-decoded : (k a v w a′ v′ w′ : ℕ) → (5 ≤ size k → a ≡ a′) → (9 ≤ size k → v ≡ v′) → (13 ≤ size k → w ≡ w′)
+    → decoded k a v w ≡ decoded k a′ v′ w′
+unfolding decoded
+same-decoded zero a v w a′ v′ w′ ea ev ew = refl
+same-decoded (suc zero) a v w a′ v′ w′ ea ev ew = rw (ea (omega arith), ev (omega arith))
+same-decoded (suc (suc zero)) a v w a′ v′ w′ ea ev ew = rw (ea (omega arith), ev (omega arith))
+same-decoded (suc (suc (suc zero))) a v w a′ v′ w′ ea ev ew = rw (ea (omega arith))
+same-decoded (suc (suc (suc (suc zero)))) a v w a′ v′ w′ ea ev ew = rw (ea (omega arith))
+same-decoded (suc (suc (suc (suc (suc zero))))) a v w a′ v′ w′ ea ev ew = rw (ea (omega arith))
+same-decoded (suc (suc (suc (suc (suc (suc zero)))))) a v w a′ v′ w′ ea ev ew = refl
+same-decoded (suc (suc (suc (suc (suc (suc (suc zero))))))) a v w a′ v′ w′ ea ev ew = refl
+same-decoded (suc (suc (suc (suc (suc (suc (suc (suc zero)))))))) a v w a′ v′ w′ ea ev ew = rw (ea (omega arith), ew (omega arith))
+same-decoded (suc (suc (suc (suc (suc (suc (suc (suc (suc zero))))))))) a v w a′ v′ w′ ea ev ew = rw (ea (omega arith), ew (omega arith))
+same-decoded (suc (suc (suc (suc (suc (suc (suc (suc (suc (suc k)))))))))) a v w a′ v′ w′ ea ev ew = refl
+
+-- The first m bytes of a list that begins with an accepted record, which is in them
+module _ (m : ℕ) (u : List ℕ) (e : recordNumber u ≡ 0) (b : size (kindOf u) ≤ m) where
+  cut-byte : (i : ℕ) → i < m → byte (take m u) i ≡ byte u i
+  cut-byte i h = getD-take m u i 0 h
+
+  cut-four : (i : ℕ) → i + 3 < m → four (take m u) i ≡ four u i
+  cut-four i h =
+      rw (cut-byte i (omega arith), cut-byte (i + 1) (omega arith), cut-byte (i + 2) (omega arith), cut-byte (i + 3) (omega arith))
+
+  cut-kind : kindOf (take m u) ≡ kindOf u
+  cut-kind = cut-byte 0 (omega arith)
+
+  cut-record : recordOf (take m u) ≡ recordOf u
+  unfolding recordOf
+  cut-record =
+      rw cut-kind
+      (same-decoded (kindOf u) (four (take m u) 1) (four (take m u) 5) (eight (take m u) 5) (four u 1) (four u 5) (eight u 5)
+      (λ l. cut-four 1 (omega arith))
+      (λ l. cut-four 5 (omega arith))
+      (λ l. rw (cut-four 5 (omega arith), cut-four 9 (omega arith))))
+
+  cut-number : recordNumber (take m u) ≡ 0
+  unfolding recordNumber
+  cut-number =
+      let w = accepted-whole u e in
+      let n : length (take m u) ≡ min m (length u) = length-take m u in
+      rw (cut-kind, cut-record, lt-ltb 0 (length (take m u)) (omega arith), accepted-kind u e, le-leb (size (kindOf u)) (length (take m u)) (omega arith))
+      (accepted-address u e)
+
+drop-take : (n m : ℕ) (l : List ℕ) → drop n (take m l) ≡ take (m - n) (drop n l)
+drop-take zero m l = rw (sub-zero m)
+drop-take (suc n) zero l = rw (zero-sub (suc n))
+drop-take (suc n) (suc m) [] = sym (take-nil (suc m - suc n))
+drop-take (suc n) (suc m) (x ∷ l) = rw (suc-sub-suc m n) (drop-take n m l)
+
+-- A record that ends where a recording is cut, or before, is read as before
+cut-read : (s : List ℕ) (at last : ℕ) → length s ≤ longest → readRecord s at .number ≡ 0 → readRecord s at .place ≤ last → last ≤ length s
+    → readRecord (take last s) at ≡ readRecord s at
+cut-read s at last h e p l =
+    let z : recordNumber (drop at s) ≡ 0 = sym (short s at h) ∙ e in
+    let r = read-accepted s at h z in
+    let q : readRecord s at .place ≡ at + size (kindOf (drop at s)) = ap (λ (f : Reading). f .place) r in
+    let b : size (kindOf (drop at s)) ≤ last - at = fits (bodySize (kindOf (drop at s))) (omega arith) in
+    let d = drop-take at last s in
+    let n : length (take last s) ≡ last = length-take-le last s l in
+    let z′ : recordNumber (drop at (take last s)) ≡ 0 = rw d (cut-number (last - at) (drop at s) z b) in
+    read-accepted (take last s) at (omega arith) z′
+    ∙ rw (d, cut-record (last - at) (drop at s) z b, cut-kind (last - at) (drop at s) z b, r)
+  where
+    fits : (n : ℕ) → at + (1 + n) ≤ last → 1 + n ≤ last - at
+    fits n k = omega arith
+
+-- Where the recording is cut at the place that the reader came to
+record Alone (s : List ℕ) (at : ℕ) (rs : List Record) (last : ℕ) : Type 0 where
+  items : split (drop at (take last s)) .items ≡ rs
+  number : split (drop at (take last s)) .number ≡ 0
+  onward : at ≤ last
+  within : last ≤ length s
+
+alone-none : (s : List ℕ) (at : ℕ) → at ≤ length s → Alone s at [] at
+alone-none s at h =
+    let q = split-none (take at s) at (omega (arith, length-take at s)) in
+    record {
+      items = ap (λ (x : Split). x .items) q;
+      number = ap (λ (x : Split). x .number) q;
+      onward = omega arith;
+      within = h;
+    }
+
+alone-more : (s : List ℕ) (at p last : ℕ) (r : Record) (rs : List Record) → length s ≤ longest → readRecord s at ≡ found r p → Alone s p rs last
+    → Alone s at (r ∷ rs) last
+alone-more s at p last r rs h e x =
+    let z : readRecord s at .number ≡ 0 = ap (λ (f : Reading). f .number) e in
+    let i : readRecord s at .item ≡ r = ap (λ (f : Reading). f .item) e in
+    let w : readRecord s at .place ≡ p = ap (λ (f : Reading). f .place) e in
+    let m = moves-on s at h z in
+    let o = x .onward in
+    let v = x .within in
+    let c : readRecord (take last s) at ≡ found r p = cut-read s at last h z (omega arith) v ∙ e in
+    let n : length (take last s) ≡ last = length-take-le last s v in
+    let q : split (drop at (take last s)) ≡ precedes r (split (drop p (take last s))) =
+    split-next (take last s) at (omega arith) (ap (λ (f : Reading). f .number) c)
+    ∙ ap (λ (f : Reading). precedes (f .item) (split (drop (f .place) (take last s)))) c in
+    record {
+      items = ap (λ (y : Split). y .items) q ∙ ap (λ (l : List Record). r ∷ l) (x .items);
+      number = ap (λ (y : Split). y .number) q ∙ x .number;
+      onward = omega (arith, m .0);
+      within = v;
+    }
+
+alone : {s : List ℕ} {at last n : ℕ} {rs : List Record} → length s ≤ longest → ReadOn s at rs last n → Alone s at rs last
+alone {s} h atEnd = alone-none s (length s) (omega arith)
+alone {s} h (declines {at = at} l e) = alone-none s at (omega arith)
+alone {s} h (reads {at = at} {p = p} {last = last} {r = r} {rs = rs} l e x) = alone-more s at p last r rs h e (alone h x)
+
+-- Replayed alone, the accepted records are all accepted
+pub accepted-alone : (s : List ℕ) (rs : List Record) (last n : ℕ) → length s ≤ longest → ReadOn s 0 rs last n
+    → (split (take last s) .items ≡ rs) × (split (take last s) .number ≡ 0) × (last ≤ length s)
+accepted-alone s rs last n h x = let a = alone h x in (a .items, a .number, a .within)
+
+-- ---- The numbers of the records
+
+-- Of bytes
+joined-fits : (a b c d : ℕ) → a < 256 → b < 256 → c < 256 → d < 256 → joined a b c d < 0x100000000
+joined-fits a b c d ha hb hc hd = omega arith
+
+both-fit : (a b : ℕ) → a < 0x100000000 → b < 0x100000000 → a * 0x100000000 + b < 0x10000000000000000
+both-fit a b ha hb = omega arith
+
+decoded-fits : (k a v w : ℕ) → a < 0x100000000 → v < 0x100000000 → w < 0x10000000000000000 → Fits (decoded k a v w)
+unfolding decoded
+decoded-fits zero a v w ha hv hw = tt
+decoded-fits (suc zero) a v w ha hv hw = hv
+decoded-fits (suc (suc zero)) a v w ha hv hw = hv
+decoded-fits (suc (suc (suc zero))) a v w ha hv hw = ha
+decoded-fits (suc (suc (suc (suc zero)))) a v w ha hv hw = ha
+decoded-fits (suc (suc (suc (suc (suc zero))))) a v w ha hv hw = ha
+decoded-fits (suc (suc (suc (suc (suc (suc zero)))))) a v w ha hv hw = tt
+decoded-fits (suc (suc (suc (suc (suc (suc (suc zero))))))) a v w ha hv hw = tt
+decoded-fits (suc (suc (suc (suc (suc (suc (suc (suc zero)))))))) a v w ha hv hw = hw
+decoded-fits (suc (suc (suc (suc (suc (suc (suc (suc (suc zero))))))))) a v w ha hv hw = hw
+decoded-fits (suc (suc (suc (suc (suc (suc (suc (suc (suc (suc k)))))))))) a v w ha hv hw = tt
+
+four-fits : (s : List ℕ) (i : ℕ) → ((j : ℕ) → byte s j < 256) → four s i < 0x100000000
+four-fits s i h = joined-fits (byte s i) (byte s (i + 1)) (byte s (i + 2)) (byte s (i + 3)) (h i) (h (i + 1)) (h (i + 2)) (h (i + 3))
+
+record-fits : (s : List ℕ) → ((j : ℕ) → byte s j < 256) → Fits (recordOf s)
+unfolding recordOf
+record-fits s h =
+    decoded-fits (kindOf s) (four s 1) (four s 5) (eight s 5) (four-fits s 1 h) (four-fits s 5 h)
+    (both-fit (four s 5) (four s 9) (four-fits s 5 h) (four-fits s 9 h))
+
+by-number : (n : ℕ) (x : Split) → AllFit (x .items) → AllFit (ifRefused n (stops n) x .items)
+by-number zero x h = h
+by-number (suc n) x h = tt
+
+from-fit : (k : ℕ) (s : List ℕ) → ((j : ℕ) → byte s j < 256) → AllFit (splitFrom k s .items)
+unfolding splitFrom
+from-fit k [] h = tt
+from-fit zero (b ∷ s) h =
+    by-number (recordNumber (b ∷ s)) (precedes (recordOf (b ∷ s)) (splitFrom (bodySize b) s))
+    (record-fits (b ∷ s) h, from-fit (bodySize b) s (λ j. h (suc j)))
+from-fit (suc k) (b ∷ s) h = from-fit k s (λ j. h (suc j))
+
+-- Values and budgets are below 2 ^ 32, words below 2 ^ 64
+pub items-fit : (s : List ℕ) → ((i : ℕ) → getD s i 0 < 256) → AllFit (split s .items)
+items-fit s h = from-fit 0 s h
+
+-- A recording that is too long is declined at its start
+pub too-long : (s : List ℕ) → longest < length s → ReadOn s 0 [] 0 9
+unfolding readRecord
+too-long s h = declines {at = 0} {n = 8} (omega arith) (rw (lt-ltb longest (length s) h))
+
+-- ---- The number that ends the records
+
+either-at-most : (n : ℕ) (x : Split) → n ≤ 8 → x .number ≤ 8 → ifRefused n (stops n) x .number ≤ 8
+either-at-most zero x h l = l
+either-at-most (suc n) x h l = h
+
+from-at-most : (k : ℕ) (s : List ℕ) → splitFrom k s .number ≤ 8
+unfolding splitFrom
+from-at-most k [] = omega arith
+from-at-most zero (b ∷ s) =
+    either-at-most (recordNumber (b ∷ s)) (precedes (recordOf (b ∷ s)) (splitFrom (bodySize b) s)) (record-at-most (b ∷ s))
+    (from-at-most (bodySize b) s)
+from-at-most (suc k) (b ∷ s) = from-at-most k s
+
+pub numbers : (s : List ℕ) → split s .number ≤ 8
+numbers s = from-at-most 0 s

@@ -1,0 +1,85 @@
+-- A recording as the records that it holds.
+use Prim.Native.Nat.{ℕ, zero, suc, _<_}
+use mathlib.Core.Path.{_≡_}
+use mathlib.Core.Bool.{Bool, not, _&&_, _||_}
+use mathlib.Core.List.{List, [], _∷_}
+use lib.Dec.{ltb, leb, eqb}
+use lib.ListN.{length}
+use Rattle.words.specs.Tests.{implies}
+use Rattle.machine.specs.Address.{registerAt}
+use Rattle.machine.specs.Refusals.{isRegister, ifRefused}
+use Rattle.recording.specs.declared.Record.{Record}
+use Rattle.recording.specs.declared.Record.the-variants.{None, Write, Read, SpRun, DpRun, Tick, Break, Acknowledge, Store, Check}
+use Rattle.recording.specs.Kinds.{four, isKind, bodySize, size, kindOf, recordOf}
+use Rattle.recording.specs.Reader.{memoryAllowed, recordNumber, refused, found, readRecord}
+
+-- The records that are accepted, in order, and the number of the one that is declined after them, 0 if none is left
+pub record Split : Type 0 where
+  pub items : List Record
+  pub number : ℕ
+
+abbrev pub stops : ℕ → Split
+stops n = record { items = []; number = n }
+
+abbrev pub precedes : Record → Split → Split
+precedes r x = record { items = r ∷ x .items; number = x .number }
+
+-- The records of bytes, of which the first `skip` are passed over: they are the rest of a body
+unfoldable pub splitFrom : ℕ → List ℕ → Split
+splitFrom skip [] = stops 0
+splitFrom zero (b ∷ s) =
+    ifRefused (recordNumber (b ∷ s)) (stops (recordNumber (b ∷ s))) (precedes (recordOf (b ∷ s)) (splitFrom (bodySize b) s))
+splitFrom (suc skip) (b ∷ s) = splitFrom skip s
+
+abbrev pub split : List ℕ → Split
+split s = splitFrom 0 s
+
+-- ---- What is proved of it
+
+-- The reader of the recording s, called at a place and then at each place that it gives, accepts these records, stands at the place `last`,
+-- and there is at the end (number 0) or declines with this number
+pub data ReadOn (s : List ℕ) : ℕ → List Record → ℕ → ℕ → Type 0 where
+  atEnd : ReadOn s (length s) [] (length s) 0
+  declines : {at n : ℕ} → at < length s → readRecord s at ≡ refused (suc n) → ReadOn s at [] at (suc n)
+  reads : {at p last n : ℕ} {r : Record} {rs : List Record} → at < length s → readRecord s at ≡ found r p → ReadOn s p rs last n
+      → ReadOn s at (r ∷ rs) last n
+
+-- A known kind whose body is all there; one that names a register; one that names a memory address
+abbrev pub whole : List ℕ → Bool
+whole s = ltb 0 (length s) && isKind (kindOf s) && leb (size (kindOf s)) (length s)
+
+abbrev pub accesses : ℕ → Bool
+accesses kind = eqb kind 1 || eqb kind 2
+
+abbrev pub storesOrChecks : ℕ → Bool
+storesOrChecks kind = eqb kind 8 || eqb kind 9
+
+-- Each number exactly in its case, by the first that applies, and 0 where none does
+pub record RecordGiven (s : List ℕ) : Type 0 where
+  pub kindNumber : eqb (recordNumber s) 7 ≡ ltb 0 (length s) && not (isKind (kindOf s))
+  pub cutNumber : eqb (recordNumber s) 8 ≡ not (ltb 0 (length s)) || (isKind (kindOf s) && not (leb (size (kindOf s)) (length s)))
+  pub registerNumber : eqb (recordNumber s) 5 ≡ whole s && accesses (kindOf s) && not (isRegister (registerAt (four s 1)))
+  pub memoryNumber : eqb (recordNumber s) 6 ≡ whole s && storesOrChecks (kindOf s) && not (memoryAllowed (four s 1))
+  pub success : eqb (recordNumber s) 0
+      ≡ whole s && implies (accesses (kindOf s)) (isRegister (registerAt (four s 1))) && implies (storesOrChecks (kindOf s)) (memoryAllowed (four s 1))
+
+-- 9 exactly where the recording is longer than 16,383 bytes, at every place
+abbrev pub LengthGiven : List ℕ → Type 0
+LengthGiven s = (at : ℕ) → eqb (readRecord s at .number) 9 ≡ ltb 16383 (length s)
+
+-- Numbers that stand in their four or eight bytes
+abbrev pub Fits : Record → Type 0
+Fits None = Unit {0}
+Fits (Write a v) = v < 0x100000000
+Fits (Read a v) = v < 0x100000000
+Fits (SpRun b) = b < 0x100000000
+Fits (DpRun b) = b < 0x100000000
+Fits (Tick n) = n < 0x100000000
+Fits Break = Unit {0}
+Fits Acknowledge = Unit {0}
+Fits (Store a w) = w < 0x10000000000000000
+Fits (Check a w) = w < 0x10000000000000000
+
+abbrev pub AllFit : List Record → Type 0
+AllFit [] = Unit {0}
+AllFit (r ∷ rs) = Fits r × AllFit rs
