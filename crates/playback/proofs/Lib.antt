@@ -1,6 +1,6 @@
+pub mod Kept
 pub mod Sounds
 pub mod Steps
 pub mod Room
 pub mod Replaying
-pub mod Stored
 pub mod Case
