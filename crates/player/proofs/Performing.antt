@@ -77,9 +77,11 @@ module _ {item item′ : Record} {w : World} {d : List ℕ} {at : ℕ} (known : 
       → PerformGives item w d at (world next m′) d′ place
   listed-call g bytes leaves told = performed (rw (g .given, bytes) (sym leaves)) (rw told (g .listed))
 
--- No call: the state as it was
-pub other-memory : {s : State} {m m′ : Memory} → m′ ≡ m → world s m′ ≡ world s m
-other-memory {s} e = ap (λ (m : Memory). world s m) e
+  -- No call: every register is left alone
+  pub state-kept : {next : State} {m m′ : Memory} {d′ : List ℕ} {place p : ℕ}
+      → (next ≡ w .state) × (place ≡ p) → m′ ≡ m → after item′ w ≡ world (w .state) m → Put d at (line item′ w) d′ p
+      → PerformGives item w d at (world next m′) d′ place
+  state-kept kept bytes leaves put = performed (rw (kept .0, bytes) (sym leaves)) (rw (kept .1) put)
 
 -- No line: the place stays, which is not past the buffer's end
 pub no-line : {d : List ℕ} {at : ℕ} → at ≤ length d → Put d at [] d at

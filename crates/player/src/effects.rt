@@ -21,8 +21,9 @@ ghost use Rattle.words.specs.Memory.{memory};
 ghost use Rattle.machine.specs.Calls.{readRegister};
 ghost use Rattle.machine.specs.Runs.{spRun, spRunMemory, dpRun};
 ghost use Rattle.laws.specs.World.{world};
-ghost use Rattle.listing.specs.Text.{letterS, letterD, letterR, runLine, foundLine};
-ghost use Rattle.playback.specs.Effects.{room};
+ghost use Rattle.listing.specs.Text.{letterS, letterD, letterR, letterL, runLine, foundLine};
+ghost use Rattle.listing.specs.Put.{Put};
+ghost use Rattle.playback.specs.Effects.{room, loadAt};
 ghost use Rattle.playback.specs.Promised.{ShowGives, PerformGives};
 
 // The state after a record, and the place after its line.
@@ -95,6 +96,33 @@ fn dp_run_listed(
     Progress { state, place }
 }
 
+// A record that leaves every register alone and writes no line.
+fn unchanged(s: State, at: usize) -> Progress
+    ensures { λ r. ⌜ (r .state ≡ s) × (r .place ≡ at) ⌝ }
+{
+    Progress {
+        state: s,
+        place: at,
+    }
+}
+
+// Lists the word at an address and the word expected there.
+fn check_listed(
+    a: u32,
+    expected: u64,
+    rdram: &[u8],
+    dmem: &[u8],
+    imem: &[u8],
+    out: &mut [u8],
+    at: usize,
+) -> usize
+    ensures { λ r. ⌜ Put (now (out .entry)) at
+        (foundLine letterL true a (loadAt a (memory (now (rdram .entry)) (now (dmem .entry)) (now (imem .entry)))) expected) (now (out .exit)) r ⌝ }
+{
+    let found = load_at(a, rdram, dmem, imem);
+    put_found(out, at, b'L', true, a, found, expected)
+}
+
 // Does what a record says, and writes its line.
 pub(crate) fn perform(
     item: Record,
@@ -110,44 +138,21 @@ pub(crate) fn perform(
         (world (r .state) (memory (now (rdram .exit)) (now (dmem .exit)) (now (imem .exit)))) (now (out .exit)) (r .place) ⌝ }
 {
     match item {
-        Record::None => {
-            return Progress {
-                state: s,
-                place: at,
-            };
-        }
-        Record::Write(a, v) => {
-            return unlisted(write_register(s, a, v), at);
-        }
-        Record::Read(a, v) => {
-            return read_listed(s, a, v, out, at);
-        }
-        Record::SpRun(budget) => {
-            return sp_run_listed(s, budget, rdram, dmem, imem, out, at);
-        }
-        Record::DpRun(budget) => {
-            return dp_run_listed(s, budget, rdram, dmem, out, at);
-        }
-        Record::Tick(n) => {
-            return unlisted(tick(s, n), at);
-        }
-        Record::Break => {
-            return unlisted(sp_break(s), at);
-        }
-        Record::Acknowledge => {
-            return unlisted(acknowledge(s), at);
-        }
+        Record::None => unchanged(s, at),
+        Record::Write(a, v) => unlisted(write_register(s, a, v), at),
+        Record::Read(a, v) => read_listed(s, a, v, out, at),
+        Record::SpRun(budget) => sp_run_listed(s, budget, rdram, dmem, imem, out, at),
+        Record::DpRun(budget) => dp_run_listed(s, budget, rdram, dmem, out, at),
+        Record::Tick(n) => unlisted(tick(s, n), at),
+        Record::Break => unlisted(sp_break(s), at),
+        Record::Acknowledge => unlisted(acknowledge(s), at),
         Record::Store(a, word) => {
             store_at(a, word, rdram, dmem, imem);
-            return Progress {
-                state: s,
-                place: at,
-            };
+            unchanged(s, at)
         }
         Record::Check(a, word) => {
-            let found = load_at(a, rdram, dmem, imem);
-            let place = put_found(out, at, b'L', true, a, found, word);
-            return Progress { state: s, place };
+            let place = check_listed(a, word, rdram, dmem, imem, out, at);
+            unchanged(s, place)
         }
     }
 }
