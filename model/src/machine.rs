@@ -1,6 +1,6 @@
 //! The SP engine, the DP engine, their sixteen registers and two lines.
 //!
-//! Every function here is one of the paper's calls on a state that is sound
+//! The public methods of `Machine` are the paper's calls on a state that is sound
 //! and memories of an allowed length.
 
 /// The number for an address that is not one of the sixteen registers.

@@ -21,7 +21,7 @@ pub fn whole_listing(
     done.written
 }
 
-// The same for the recording that a file holds.
+// The same for the recording that a file holds. Which bytes come from it is up to the system, and not proved.
 pub fn listing_from(
     fd: i32,
     rdram: &mut [u8],

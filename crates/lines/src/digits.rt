@@ -49,7 +49,7 @@ pub(crate) fn put_hex(out: &mut [u8], at: usize, word: bool, n: u64) -> usize
     put_hex8(out, at, n)
 }
 
-// The last digit of a number that is not 0.
+// The last decimal digit of a number; no digit for 0.
 fn put_leading(out: &mut [u8], at: usize, n: u32) -> usize
     ensures { λ r. ⌜ Put (now (out .entry)) at (leading n) (now (out .exit)) r ⌝ }
 {

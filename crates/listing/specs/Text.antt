@@ -36,7 +36,7 @@ hex8 n =
 unfoldable pub hex : Bool → ℕ → Text
 hex word n = cond word (hex8 (n / 0x100000000) ++ hex8 n) (hex8 n)
 
--- The last decimal digit, and none of 0
+-- The last decimal digit of a number; no digit for 0
 unfoldable pub leading : ℕ → Text
 leading n = cond (eqb n 0) [] (decimalDigit n ∷ [])
 

@@ -74,21 +74,21 @@ fn after(o: Outcome) -> State {
 
 // Reads a register and shows its value.
 fn read(s: State, a: u32) -> State {
-    let o = calls::read_register(s, a);
+    let o = access::read_register(s, a);
     let answer = o.answer;
     show(answer.value);
     after(o)
 }
 
 fn write(s: State, a: u32, v: u32) -> State {
-    after(calls::write_register(s, a, v))
+    after(access::write_register(s, a, v))
 }
 
 fn sp_turns(s: State, n: u32, rdram: &mut [u8], dmem: &mut [u8], imem: &mut [u8]) -> State {
     let mut state = s;
     let mut left = n;
     while 0 < left {
-        state = after(calls::sp_turn(state, rdram, dmem, imem));
+        state = after(engines::sp_turn(state, rdram, dmem, imem));
         left -= 1;
     }
     state
@@ -98,7 +98,7 @@ fn dp_turns(s: State, n: u32, rdram: &[u8], dmem: &[u8]) -> State {
     let mut state = s;
     let mut left = n;
     while 0 < left {
-        state = after(calls::dp_turn(state, rdram, dmem));
+        state = after(engines::dp_turn(state, rdram, dmem));
         left -= 1;
     }
     state
@@ -107,7 +107,7 @@ fn dp_turns(s: State, n: u32, rdram: &[u8], dmem: &[u8]) -> State {
 // Power-up.
 fn m1() {
     io::write_all(STDOUT_FILENO, b"M1");
-    let s = read(calls::power_up(), SP_STATUS);
+    let s = read(checks::power_up(), SP_STATUS);
     read(s, DP_STATUS);
 }
 
@@ -119,7 +119,7 @@ fn show_transfer(s: State) -> State {
 // Nine turns of a transfer with rows.
 fn m2(rdram: &mut [u8], dmem: &mut [u8], imem: &mut [u8]) -> State {
     io::write_all(STDOUT_FILENO, b"\nM2");
-    let s = write(calls::power_up(), RAM_ADDR, 0x1000);
+    let s = write(checks::power_up(), RAM_ADDR, 0x1000);
     let s = write(s, RD_LEN, 0x0200B03F);
     show_transfer(sp_turns(s, 9, rdram, dmem, imem))
 }
@@ -132,7 +132,7 @@ fn m3(s: State, rdram: &mut [u8], dmem: &mut [u8], imem: &mut [u8]) {
 
 // A run with the largest budget; shows its count.
 fn whole_run(s: State, rdram: &mut [u8], dmem: &mut [u8], imem: &mut [u8]) -> State {
-    let o = calls::sp_run(s, 0xFFFFFFFF, rdram, dmem, imem);
+    let o = engines::sp_run(s, 0xFFFFFFFF, rdram, dmem, imem);
     let answer = o.answer;
     show(answer.count as u64);
     after(o)
@@ -141,7 +141,7 @@ fn whole_run(s: State, rdram: &mut [u8], dmem: &mut [u8], imem: &mut [u8]) -> St
 // The longest transfer: the turns of its run, DMA_BUSY and RAMADDR at its end.
 fn m4(rdram: &mut [u8], dmem: &mut [u8], imem: &mut [u8]) {
     io::write_all(STDOUT_FILENO, b"\nM4");
-    let s = write(calls::power_up(), RD_LEN, 0xFFFFFFFF);
+    let s = write(checks::power_up(), RD_LEN, 0xFFFFFFFF);
     let s = read(whole_run(s, rdram, dmem, imem), DMA_BUSY);
     read(s, RAM_ADDR);
 }
@@ -149,7 +149,7 @@ fn m4(rdram: &mut [u8], dmem: &mut [u8], imem: &mut [u8]) {
 // A bank address goes round inside IMEM.
 fn m5(rdram: &mut [u8], dmem: &mut [u8], imem: &mut [u8]) {
     io::write_all(STDOUT_FILENO, b"\nM5");
-    let s = write(calls::power_up(), SP_ADDR, 0xFFFFFFFF);
+    let s = write(checks::power_up(), SP_ADDR, 0xFFFFFFFF);
     let s = write(s, RD_LEN, 0x0F);
     let s = sp_turns(s, 2, rdram, dmem, imem);
     read(s, SP_ADDR);
@@ -158,7 +158,7 @@ fn m5(rdram: &mut [u8], dmem: &mut [u8], imem: &mut [u8]) {
 // A signal is set; both bits of a pair leave HALTED off, and on.
 fn m6() {
     io::write_all(STDOUT_FILENO, b"\nM6");
-    let s = write(calls::power_up(), SP_STATUS, 0x01000000);
+    let s = write(checks::power_up(), SP_STATUS, 0x01000000);
     let s = read(s, SP_STATUS);
     let s = read(write(s, SP_STATUS, 3), SP_STATUS);
     let s = write(s, SP_STATUS, 2);
@@ -167,7 +167,7 @@ fn m6() {
 
 fn m7() {
     io::write_all(STDOUT_FILENO, b"\nM7");
-    let s = read(calls::power_up(), SEMAPHORE);
+    let s = read(checks::power_up(), SEMAPHORE);
     let s = read(s, SEMAPHORE);
     read(write(s, SEMAPHORE, 1), SEMAPHORE);
 }
@@ -180,14 +180,14 @@ fn write_list(s: State, start: u32, end: u32) -> State {
 // An empty list.
 fn m8() {
     io::write_all(STDOUT_FILENO, b"\nM8");
-    read(write_list(calls::power_up(), 0x2000, 0x2000), DP_STATUS);
+    read(write_list(checks::power_up(), 0x2000, 0x2000), DP_STATUS);
 }
 
 // A list that waits for another.
 fn m9(rdram: &[u8], dmem: &[u8]) {
     io::write_all(STDOUT_FILENO, b"\nM9");
     let s = write_list(
-        write_list(calls::power_up(), 0x2000, 0x2018),
+        write_list(checks::power_up(), 0x2000, 0x2018),
         0x3000,
         0x3008,
     );
@@ -199,7 +199,7 @@ fn m9(rdram: &[u8], dmem: &[u8]) {
 // FREEZE, and off again.
 fn m10() {
     io::write_all(STDOUT_FILENO, b"\nM10");
-    let s = write_list(write(calls::power_up(), DP_STATUS, 8), 0x2000, 0x2008);
+    let s = write_list(write(checks::power_up(), DP_STATUS, 8), 0x2000, 0x2008);
     let s = read(s, DP_STATUS);
     read(write(s, DP_STATUS, 4), DP_STATUS);
 }
@@ -216,7 +216,7 @@ fn m11(rdram: &mut [u8], dmem: &[u8]) {
     io::write_all(STDOUT_FILENO, b"\nM11");
     set_byte(rdram, 0x2000, 0xE9);
     let s = dp_turns(
-        write_list(calls::power_up(), 0x2000, 0x2008),
+        write_list(checks::power_up(), 0x2000, 0x2008),
         1,
         rdram,
         dmem,
@@ -231,7 +231,7 @@ fn m11(rdram: &mut [u8], dmem: &[u8]) {
 fn m12(rdram: &[u8], dmem: &[u8]) {
     io::write_all(STDOUT_FILENO, b"\nM12");
     let s = dp_turns(
-        write_list(calls::power_up(), 0x2000, 0x2018),
+        write_list(checks::power_up(), 0x2000, 0x2018),
         1,
         rdram,
         dmem,

@@ -1,21 +1,23 @@
--- The whole case of paper 01, by computation.
+-- The whole case of paper 01, and the case that stops, by computation.
 use mathlib.Core.Path.{_≡_, refl}
+use Rattle.words.specs.Memory.{bytesAt, loadWord, storeWord, wordValue, wordBytes}
 use Rattle.sp.specs.Transfer.{started, lengthWritten, nextWord, ended}
 use Rattle.sp.specs.Sound.{spSound}
 use Rattle.sp.specs.Turn.{spNext, spAfter, spTaken}
 use Rattle.dp.specs.Sound.{dpSound}
+use Rattle.dp.specs.Turn.{dpTaken, dpAfter}
 use Rattle.machine.specs.Sound.{sound}
 use Rattle.machine.specs.Address.{registerAt}
-use Rattle.machine.specs.Refusals.{accessRefusal, spRefusal}
+use Rattle.machine.specs.Refusals.{accessRefusal, spRefusal, dpRefusal}
 use Rattle.machine.specs.Calls.{readRegister, writeRegister}
-use Rattle.machine.specs.Runs.{spRun}
+use Rattle.machine.specs.Runs.{spRun, dpRun}
 use Rattle.recording.specs.Kinds.{decoded, recordOf}
 use Rattle.recording.specs.Reader.{recordNumber}
 use Rattle.recording.specs.Split.{splitFrom}
-use Rattle.listing.specs.Text.{hex, leading, decimal, runLine, verdict, foundLine, endLine}
-use Rattle.playback.specs.Effects.{after, line}
+use Rattle.listing.specs.Text.{hex, leading, decimal, runLine, verdict, foundLine, endLine, stopLine}
+use Rattle.playback.specs.Effects.{loadAt, storeAt, after, line}
 use Rattle.playback.specs.Replay.{lines, replayRefusal, replay}
-use Rattle.playback.specs.Case.{bytes, start, text}
+use Rattle.playback.specs.Case.{bytes, start, text, stopBytes, stopText}
 
 pub whole-case : (replay bytes start .text ≡ text)
     × (replay bytes start .outcome .answer .number ≡ 0)
@@ -25,3 +27,12 @@ unfolding bytes start text replay replayRefusal spRefusal accessRefusal sound sp
     spRun spTaken spAfter spNext started lengthWritten nextWord ended
     runLine foundLine verdict hex decimal leading endLine
 whole-case = (refl, refl, refl)
+
+pub stop-case : (replay stopBytes start .text ≡ stopText)
+    × (replay stopBytes start .outcome .answer .number ≡ 7)
+    × (replay stopBytes start .outcome .answer .count ≡ 3)
+unfolding stopBytes start stopText replay replayRefusal spRefusal dpRefusal sound spSound dpSound
+    splitFrom recordNumber recordOf decoded lines after line loadAt storeAt loadWord storeWord bytesAt wordValue wordBytes
+    dpRun dpTaken dpAfter
+    runLine foundLine verdict hex decimal leading stopLine
+stop-case = (refl, refl, refl)

@@ -20,6 +20,7 @@ use Rattle.recording.specs.Reader.{longest}
 use Rattle.recording.specs.Split.{split}
 use Rattle.recording.proofs.Numbers.{small}
 use Rattle.recording.proofs.Splitting.{read-on, accepted-alone, items-fit, numbers}
+use Rattle.listing.specs.Text.{header, stopLine}
 use Rattle.playback.specs.declared.Replayed.{Replayed}
 use Rattle.playback.specs.Replay.{Played, afterAll, ending, replayRefusal, replay}
 use Rattle.playback.specs.Promised.{ReplayGives}
@@ -109,6 +110,11 @@ module _ (state : State) (s : List ℕ) (m : Memory) (d : List ℕ) (r : Replaye
       (λ z. rw (begun-memory z) (all-keep-lengths (split s .items) (world state m) p))
       (λ k n. ap (λ (x : Memory). length (bytesOf p x)) (not-begun k n .1))
 
+-- Its listing is the first line and a `stop` line
+not-text : (s : List ℕ) (w : World) (n : ℕ) → replayRefusal s w ≡ suc n → replay s w .text ≡ header ++ stopLine 0 (suc n)
+not-text s w n e =
+    ap (λ (x : Played). x .text) (replay-not s w (λ z. omega (arith, e, z))) ∙ ap (λ (k : ℕ). header ++ stopLine 0 k) e
+
 -- Two replays of the same records
 same-left : (state : State) (s t : List ℕ) (m : Memory) (d e : List ℕ) (r q : Replayed) (s′ t′ : List ℕ) (m′ n′ : Memory) (d′ e′ : List ℕ)
     → ReplayGives state s m d r s′ m′ d′ → ReplayGives state t m e q t′ n′ e′
@@ -167,6 +173,9 @@ module _ (state : State) (s : List ℕ) (m : Memory) (d : List ℕ) (r : Replaye
         count = ap (λ (o : Outcome). o .answer .count) o;
         value = ap (λ (o : Outcome). o .answer .value) o;
         leaves = λ i. world (o i .state) (b i);
+        text =
+            rw (n, ap (λ (o : Outcome). o .answer .count) o)
+            (ap (λ (x : Played). x .text) (replay-begun s w z));
         succeed = all-succeed (split s .items) w (items-fit s bytes) (items-accepted s) (machine-passes s w z);
         alone = λ e q t n′ e′ k.
             let c = accepted-alone s (split s .items) (x .0) (split s .number) h (x .1) in
@@ -191,9 +200,12 @@ pub every-replay : EveryReplay
 every-replay state s m d r s′ m′ d′ bytes g =
     let fits = listing-size s (world state m) in
     record {
-      notBegun = not-begun state s m d r s′ m′ d′ g;
+      notBegun = λ n e.
+          let p = not-begun state s m d r s′ m′ d′ g n e in
+          (p .0, p .1, not-text s (world state m) n e);
       begun = begun state s m d r s′ m′ d′ bytes g;
       nine = nine state s m d r s′ m′ d′ g;
+      others = refusal-short s (world state m);
       keepsSound = keeps-sound state s m d r s′ m′ d′ bytes g;
       lengths = lengths state s m d r s′ m′ d′ g;
       size = fits;

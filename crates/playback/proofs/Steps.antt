@@ -1,4 +1,4 @@
--- The loop of a replay: whoever finishes from where it stands has finished the whole.
+-- The loop of a replay: a result that finishes the rest of the records finishes the whole recording.
 use Prim.Native.Nat.{ℕ, suc, _+_, _≤_, _<_}
 use mathlib.Core.Path.{_≡_, refl, sym, ap, _∙_}
 use mathlib.Core.Bool.{Bool, true, false}

@@ -1,4 +1,4 @@
--- The whole case of paper 01: a recording of 32 bytes, and its listing.
+-- The whole case of paper 01: a recording of 32 bytes, and its listing. And a recording that stops, with the lines that the first one has not.
 use Prim.Native.Nat.{ℕ}
 use mathlib.Core.List.{List, [], _∷_}
 use lib.ListN.{replicate}
@@ -33,4 +33,29 @@ text =
     ∷ 82 ∷ 32 ∷ 48 ∷ 52 ∷ 48 ∷ 52 ∷ 48 ∷ 48 ∷ 48 ∷ 48 ∷ 32 ∷ 48 ∷ 48 ∷ 48 ∷ 48 ∷ 49 ∷ 48 ∷ 48 ∷ 56 ∷ 32 ∷ 111 ∷ 107 ∷ 10
     -- `end 4`
     ∷ 101 ∷ 110 ∷ 100 ∷ 32 ∷ 52 ∷ 10
+    ∷ []
+
+unfoldable pub stopBytes : List ℕ
+stopBytes =
+    -- Store 0x0123456789ABCDEF at 0x04001FF8, the last word of IMEM
+    0x08 ∷ 0x04 ∷ 0x00 ∷ 0x1F ∷ 0xF8 ∷ 0x01 ∷ 0x23 ∷ 0x45 ∷ 0x67 ∷ 0x89 ∷ 0xAB ∷ 0xCD ∷ 0xEF
+    -- Check it, and expect 1
+    ∷ 0x09 ∷ 0x04 ∷ 0x00 ∷ 0x1F ∷ 0xF8 ∷ 0x00 ∷ 0x00 ∷ 0x00 ∷ 0x00 ∷ 0x00 ∷ 0x00 ∷ 0x00 ∷ 0x01
+    -- DP run with budget 16, where no list runs
+    ∷ 0x04 ∷ 0x00 ∷ 0x00 ∷ 0x00 ∷ 0x10
+    -- Kind 10, which is unknown; then a BREAK, which is not reached
+    ∷ 0x0A ∷ 0x06
+    ∷ []
+
+unfoldable pub stopText : Text
+stopText =
+    -- `replay 1`
+    114 ∷ 101 ∷ 112 ∷ 108 ∷ 97 ∷ 121 ∷ 32 ∷ 49 ∷ 10
+    -- `L 04001FF8 0123456789ABCDEF expected 0000000000000001`
+    ∷ 76 ∷ 32 ∷ 48 ∷ 52 ∷ 48 ∷ 48 ∷ 49 ∷ 70 ∷ 70 ∷ 56 ∷ 32 ∷ 48 ∷ 49 ∷ 50 ∷ 51 ∷ 52 ∷ 53 ∷ 54 ∷ 55 ∷ 56 ∷ 57 ∷ 65 ∷ 66 ∷ 67 ∷ 68 ∷ 69 ∷ 70
+    ∷ 32 ∷ 101 ∷ 120 ∷ 112 ∷ 101 ∷ 99 ∷ 116 ∷ 101 ∷ 100 ∷ 32 ∷ 48 ∷ 48 ∷ 48 ∷ 48 ∷ 48 ∷ 48 ∷ 48 ∷ 48 ∷ 48 ∷ 48 ∷ 48 ∷ 48 ∷ 48 ∷ 48 ∷ 48 ∷ 49 ∷ 10
+    -- `D 00000000`
+    ∷ 68 ∷ 32 ∷ 48 ∷ 48 ∷ 48 ∷ 48 ∷ 48 ∷ 48 ∷ 48 ∷ 48 ∷ 10
+    -- `stop 3 7`
+    ∷ 115 ∷ 116 ∷ 111 ∷ 112 ∷ 32 ∷ 51 ∷ 32 ∷ 55 ∷ 10
     ∷ []

@@ -2,22 +2,23 @@
 use Prim.Native.Nat.{ℕ, suc, _<_, _≤_}
 use mathlib.Core.Path.{_≡_}
 use mathlib.Core.Bool.{true}
-use mathlib.Core.List.{List, [], _∷_}
+use mathlib.Core.List.{List, [], _∷_, _++_}
 use lib.Dec.{ltb, eqb}
 use lib.ListN.{length, getD, take, drop}
 use Rattle.words.specs.Memory.{Memory, Place, bytesOf}
 use Rattle.machine.specs.declared.State.{State}
 use Rattle.machine.specs.Sound.{sound}
-use Rattle.machine.specs.Refusals.{declined}
+use Rattle.machine.specs.Refusals.{spRefusal, declined}
 use Rattle.machine.specs.Calls.{readRegister, writeRegister, tick, break, acknowledge}
 use Rattle.machine.specs.Runs.{spRun}
 use Rattle.laws.specs.World.{World, world}
 use Rattle.recording.specs.declared.Record.{Record}
 use Rattle.recording.specs.declared.Record.the-variants.{None, Write, Read, SpRun, DpRun, Tick, Break, Acknowledge, Store, Check}
 use Rattle.recording.specs.Split.{ReadOn}
+use Rattle.listing.specs.Text.{header, stopLine}
 use Rattle.playback.specs.declared.Replayed.{Replayed}
 use Rattle.playback.specs.Effects.{replayDpRun, after}
-use Rattle.playback.specs.Replay.{afterAll, replayRefusal, replay}
+use Rattle.playback.specs.Replay.{afterAll, lines, lastLine, replayRefusal, replay}
 use Rattle.playback.specs.Promised.{ReplayGives}
 
 -- The number that a record's call answers; stores and checks of memory are no calls
@@ -55,6 +56,8 @@ pub record Begun (s : List ℕ) (w : World) (r : Replayed) (m′ : Memory) : Typ
   pub value : r .outcome .answer .value ≡ 0
   -- What the accepted records leave is left, and nothing else is done
   pub leaves : world (r .outcome .state) m′ ≡ afterAll items w
+  -- The listing: the first line, a line for each accepted record that has one, and `end`, or `stop` with the number
+  pub text : replay s w .text ≡ header ++ (lines items w ++ lastLine (r .outcome .answer .number) (r .outcome .answer .count))
   -- The call of each accepted record answers 0
   pub succeed : Succeed items w
   -- Replaying the accepted records alone succeeds, and leaves the same
@@ -68,10 +71,13 @@ longestListing = 69198
 -- The recording s was replayed from a state over the memory m and the buffer d; it gave r and left m′ and d′
 pub record ReplayGiven (state : State) (s : List ℕ) (m : Memory) (d : List ℕ) (r : Replayed) (m′ : Memory) (d′ : List ℕ) : Type 0 where
   -- Declined by 9, 1, 2, 3 or 4 before its first record: nothing is done
-  pub notBegun : (n : ℕ) → replayRefusal s (world state m) ≡ suc n → (r .outcome ≡ declined state (suc n)) × (m′ ≡ m)
+  pub notBegun : (n : ℕ) → replayRefusal s (world state m) ≡ suc n
+      → (r .outcome ≡ declined state (suc n)) × (m′ ≡ m) × (replay s (world state m) .text ≡ header ++ stopLine 0 (suc n))
   pub begun : replayRefusal s (world state m) ≡ 0 → Begun s (world state m) r m′
   -- 9 exactly where the recording is longer than 16,383 bytes
   pub nine : eqb (r .outcome .answer .number) 9 ≡ ltb 16383 (length s)
+  -- Else the checks are those of a call that takes RDRAM, DMEM and IMEM
+  pub others : length s ≤ 16383 → replayRefusal s (world state m) ≡ spRefusal state m
   -- A sound state stays sound, and every memory keeps its length
   pub keepsSound : sound state ≡ true → sound (r .outcome .state) ≡ true
   pub lengths : (p : Place) → length (bytesOf p m′) ≡ length (bytesOf p m)

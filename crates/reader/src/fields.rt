@@ -33,7 +33,7 @@ pub(crate) fn size(kind: u8) -> usize
     if k < 10 { 1 + BODIES[k] } else { 1 }
 }
 
-// The record of a kind, out of the first four bytes of its body, the next four and the next eight.
+// The record of a kind, where a is the first four bytes of its body, v the four after them, and w the eight after the first four.
 fn decoded(kind: u8, a: u32, v: u32, w: u64) -> Record
     ensures { λ r. ⌜ r ≡ decoded kind a v w ⌝ }
 {

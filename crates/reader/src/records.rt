@@ -9,7 +9,7 @@ use checks::register_at;
 use recording::Reading;
 use recording::Record;
 ghost use mathlib.Core.Path.{_≡_};
-ghost use Rattle.recording.specs.Reader.{memoryAllowed, registerNumber, memoryNumber, addressNumber, recordNumber, refused, found, first, readRecord};
+ghost use Rattle.recording.specs.Reader.{memoryAllowed, registerNumber, memoryNumber, addressNumber, recordNumber, refused, found, first, RecordGives};
 
 // An address that kinds 8 and 9 may name.
 fn memory_allowed(a: u32) -> bool
@@ -97,7 +97,7 @@ fn first(s: &[u8]) -> Reading
 
 // The record at a place of a recording, and the place after it. Refusals, by the first that applies: 9, 7, 8, 5, 6; at or past the end 8.
 pub fn read_record(recording: &[u8], place: usize) -> Reading
-    ensures { λ r. ⌜ r ≡ readRecord (now (recording .entry)) place ⌝ }
+    ensures { λ r. ⌜ RecordGives (now (recording .entry)) place r (now (recording .exit)) ⌝ }
 {
     let n = recording.len();
     if 16383 < n {

@@ -37,7 +37,7 @@ bodySize kind = getD bodies kind 0
 abbrev pub size : ℕ → ℕ
 size kind = 1 + bodySize kind
 
--- The record of each kind, from 0 on, where a, v and w are the first four bytes of its body, the next four and the next eight
+-- The record of each kind, from 0 on, where a is the first four bytes of its body, v the four after them, and w the eight after the first four
 abbrev pub kinds : ℕ → ℕ → ℕ → List Record
 kinds a v w =
     None

@@ -1,3 +1,4 @@
 pub mod Kinds
 pub mod Reader
 pub mod Split
+pub mod Samples

@@ -1,5 +1,6 @@
 -- The reader: a record and the place after it, or the number of the first check that fails.
 use Prim.Native.Nat.{ℕ, _+_, _%_}
+use mathlib.Core.Path.{_≡_}
 use mathlib.Core.Bool.{Bool, cond, _&&_, _||_}
 use mathlib.Core.List.{List}
 use lib.Dec.{ltb, leb, eqb}
@@ -64,3 +65,8 @@ longest = 16383
 -- What stands at a place of a recording
 unfoldable pub readRecord : List ℕ → ℕ → Reading
 readRecord s at = cond (ltb longest (length s)) (refused 9) (shifted at (first (drop at s)))
+
+-- What the reader promises for every input: its answer r, and the recording s′ at exit
+pub record RecordGives (s : List ℕ) (at : ℕ) (r : Reading) (s′ : List ℕ) : Type 0 where
+  pub reading : r ≡ readRecord s at
+  pub recordingKept : s′ ≡ s

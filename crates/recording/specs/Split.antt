@@ -67,7 +67,7 @@ pub record RecordGiven (s : List ℕ) : Type 0 where
 abbrev pub LengthGiven : List ℕ → Type 0
 LengthGiven s = (at : ℕ) → eqb (readRecord s at .number) 9 ≡ ltb 16383 (length s)
 
--- Numbers that stand in their four or eight bytes
+-- Values, budgets and ticks below 2^32, words below 2^64
 abbrev pub Fits : Record → Type 0
 Fits None = Unit {0}
 Fits (Write a v) = v < 0x100000000

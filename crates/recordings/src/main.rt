@@ -26,9 +26,7 @@ fn compare(i: usize, j: usize) {
     io::write_all(STDOUT_FILENO, &name[..n]);
     if (recording < 0) | (expected < 0) {
         io::write_all(STDOUT_FILENO, b" missing\n");
-        return;
-    }
-    if is_listed(recording, expected) {
+    } else if is_listed(recording, expected) {
         io::write_all(STDOUT_FILENO, b" same\n");
     } else {
         io::write_all(STDOUT_FILENO, b" differs\n");

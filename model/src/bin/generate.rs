@@ -1,8 +1,8 @@
 //! `generate SEED BYTES` writes a recording of at most BYTES bytes.
 //!
 //! The traffic is made of sequences, each a few records for one of the engines.
-//! Every pass goes through all sequences in a shuffled order. The model runs
-//! along, so that reads and checks can carry what will be found.
+//! Every pass goes through all sequences in a shuffled order. The model is
+//! run beside it, so that reads and checks can carry what will be found.
 
 use model::machine::*;
 use model::recording::{apply, memory_word, Record, RDRAM_BYTES};
@@ -171,7 +171,7 @@ impl Generator {
     }
 
     /// Half of the time, random bits where a register keeps none.
-    fn with_noise(&mut self, value: u32, kept: u32) -> u32 {
+    fn with_unused_bits(&mut self, value: u32, kept: u32) -> u32 {
         if self.random.once_in(2) {
             value
         } else {
@@ -222,11 +222,11 @@ impl Generator {
         match register {
             SP_SPADDR => {
                 let address = self.sp_address();
-                self.with_noise(address, SP_BITS)
+                self.with_unused_bits(address, SP_BITS)
             }
             SP_RAMADDR | DP_START | DP_END => {
                 let address = self.ram_address();
-                self.with_noise(address, RAM_BITS)
+                self.with_unused_bits(address, RAM_BITS)
             }
             SP_RDLEN | SP_WRLEN => self.length_word(),
             _ => self.random.number(),
@@ -239,8 +239,8 @@ impl Generator {
     fn write_spaddr_and_ramaddr(&mut self) {
         let bank = self.sp_address();
         let ram = self.ram_address();
-        let bank_value = self.with_noise(bank, SP_BITS);
-        let ram_value = self.with_noise(ram, RAM_BITS);
+        let bank_value = self.with_unused_bits(bank, SP_BITS);
+        let ram_value = self.with_unused_bits(ram, RAM_BITS);
         self.write(SP_SPADDR, bank_value);
         self.write(SP_RAMADDR, ram_value);
         for ahead in [0, 8, 0x40] {
@@ -332,8 +332,8 @@ impl Generator {
     }
 
     fn write_list(&mut self, list: (u32, u32)) {
-        let start = self.with_noise(list.0, RAM_BITS);
-        let end = self.with_noise(list.1, RAM_BITS);
+        let start = self.with_unused_bits(list.0, RAM_BITS);
+        let end = self.with_unused_bits(list.1, RAM_BITS);
         self.write(DP_START, start);
         self.write(DP_END, end);
     }
@@ -358,7 +358,7 @@ impl Generator {
         self.write(DP_STATUS, unused | xbus | CLEAR_FREEZE | CLEAR_FLUSH);
     }
 
-    /// Runs in pieces, with looks between them, until nothing runs.
+    /// Runs in pieces, with reads between them, until nothing runs.
     fn run_lists(&mut self) {
         for _ in 0..10 {
             if !self.machine.dp.runs() || self.machine.dp.freeze {
@@ -744,7 +744,7 @@ impl Generator {
     }
 
     /// Both engines by turns, with no plan.
-    fn medley(&mut self) {
+    fn mixed(&mut self) {
         for _ in 0..16 {
             let register = self.random.pick(&REGISTERS);
             let budget = self.budget();
@@ -791,7 +791,7 @@ const SEQUENCES: [Sequence; 22] = [
     Generator::dp_status,
     Generator::long_list,
     Generator::counters,
-    Generator::medley,
+    Generator::mixed,
 ];
 
 fn generate(seed: u64, limit: usize) -> Vec<u8> {

@@ -60,7 +60,7 @@ add-count c = omega (arith, c .before .before .before .before .before .before .b
 
 goes-on : (c : lts.After-state (read-record-reads.Asked, read-record-reads.Learnt, perform-reads.Asked, perform-reads.Learnt, put-stop-reads.Asked, put-stop-reads.Learnt, replayed-reads.Asked, replayed-reads.Learnt, put-end-reads.Asked, put-end-reads.Learnt) reads.Pre reads.Post Inv-loop μ-loop)
     → (c .before .before .before .before .before .before .before .before .before .before .before .before .before .before .before .before .before .loop .at < c .before .before .before .before .before .before .before .before .before .before .before .before .before .before .before .read-record .result .place) × (c .before .before .before .before .before .before .before .before .before .before .before .before .before .before .before .read-record .result .place ≤ length (now (c .before .before .before .before .before .before .before .before .before .before .before .before .before .before .before .before .before .before .before .before .before .before .before .args .recording)))
-goes-on c = moved-on (now (c .before .before .before .before .before .before .before .before .before .before .before .before .before .before .before .before .before .before .before .before .before .before .before .args .recording)) (c .before .before .before .before .before .before .before .before .before .before .before .before .before .before .before .before .before .loop .at) (c .before .before .before .before .before .before .before .before .before .before .before .before .before .before .before .read-record .result) (c .before .before .before .before .before .before .before .before .before .before .before .before .before .before .before .before .before .before .before .before .before .before .before .pre .0) (c .before .before .before .before .before .before .before .before .before .before .before .before .before .before .before .read-record .ensures) (c .before .before .before .before .before .before .before .before .before .before .before .before .before .before .if1 .taken)
+goes-on c = moved-on (now (c .before .before .before .before .before .before .before .before .before .before .before .before .before .before .before .before .before .before .before .before .before .before .before .args .recording)) (c .before .before .before .before .before .before .before .before .before .before .before .before .before .before .before .before .before .loop .at) (c .before .before .before .before .before .before .before .before .before .before .before .before .before .before .before .read-record .result) (c .before .before .before .before .before .before .before .before .before .before .before .before .before .before .before .before .before .before .before .before .before .before .before .pre .0) (c .before .before .before .before .before .before .before .before .before .before .before .before .before .before .before .read-record .ensures .reading) (c .before .before .before .before .before .before .before .before .before .before .before .before .before .before .if1 .taken)
 
 -- src/playing.rt:53:5
 loop-less : tie.Need-loop-less Inv-loop μ-loop
@@ -76,7 +76,7 @@ loop-again c =
     let on = goes-on c in
     let p = c .before .before .before .before .before .before .before .before .before .perform in
     let step =
-    next-record (now (c .before .before .before .before .before .before .before .before .before .before .before .before .before .before .before .before .before .before .before .before .before .before .before .args .recording)) (l .at) (l .count) (c .before .before .before .before .before .before .before .before .before .before .before .before .before .before .before .read-record .result) _ _ (c .before .before .before .before .before .before .before .before .before .before .before .before .before .before .before .before .before .before .before .before .before .before .before .pre .0) (c .before .before .before .before .before .before .before .before .before .before .before .before .before .before .before .read-record .ensures)
+    next-record (now (c .before .before .before .before .before .before .before .before .before .before .before .before .before .before .before .before .before .before .before .before .before .before .before .args .recording)) (l .at) (l .count) (c .before .before .before .before .before .before .before .before .before .before .before .before .before .before .before .read-record .result) _ _ (c .before .before .before .before .before .before .before .before .before .before .before .before .before .before .before .before .before .before .before .before .before .before .before .pre .0) (c .before .before .before .before .before .before .before .before .before .before .before .before .before .before .before .read-record .ensures .reading)
     (c .before .before .before .before .before .before .before .before .before .before .before .before .before .before .if1 .taken) (p .ensures) in (
       on .1,
       omega (arith, on .0, i .1),
@@ -120,7 +120,7 @@ returns c =
     plays s _
     (l .inv .3 _ _ _
     (stopped s (l .at) (l .count) (c .before .before .before .before .before .before .read-record .result) (l .state) (memory (l .rdram) (l .dmem) (l .imem)) (c .replayed .result) (c .before .before .before .before .before .before .before .before .before .before .before .before .before .before .pre .0)
-    (c .before .before .before .before .before .before .before .loop-test .taken) (c .before .before .before .before .before .before .read-record .ensures) (c .before .before .before .before .before .if1 .left) (c .before .before .before .put-stop .ensures) (c .replayed .ensures .0) (c .replayed .ensures .1)))
+    (c .before .before .before .before .before .before .before .loop-test .taken) (c .before .before .before .before .before .before .read-record .ensures .reading) (c .before .before .before .before .before .if1 .left) (c .before .before .before .put-stop .ensures) (c .replayed .ensures .0) (c .replayed .ensures .1)))
 
 -- src/playing.rt:68:9
 put-end-requires : tie.Need-put-end-requires Inv-loop μ-loop

@@ -1,5 +1,5 @@
 use Prim.Native.Nat.{ℕ, _-_, _≤_}
-use mathlib.Core.Path.{_≡_, sym, ap, _∙_}
+use mathlib.Core.Path.{_≡_, refl, sym, ap, _∙_}
 use mathlib.Core.List.{List}
 use native.Mathlib.Nat.{le-refl}
 use native.Mathlib.Omega.{arith}
@@ -29,7 +29,10 @@ refused-requires c κs = search needs
 returns : tie.Need-returns
 returns c =
     let a = c .before .before .before .args in
-    c .refused .ensures ∙ sym (read-long (now (a .recording)) (a .place) (c .before .if1 .taken))
+    record {
+      reading = c .refused .ensures ∙ sym (read-long (now (a .recording)) (a .place) (c .before .if1 .taken));
+      recordingKept = refl;
+    }
 
 sub-first : tie.Need-sub-first
 sub-first c = search needs
@@ -58,8 +61,11 @@ returns-2 : tie.Need-returns-2
 returns-2 c =
     let f = c .before .before .before .before in
     let a = f .before .before .before .before .before .args in
-    c .found .ensures ∙ sym (read-found (now (a .recording)) (a .place) (f .first .result) (f .before .before .before .if1 .left)
-    (reading (now (a .recording)) (a .place) (f .first .ensures)) (c .before .before .if3 .taken))
+    record {
+      reading = c .found .ensures ∙ sym (read-found (now (a .recording)) (a .place) (f .first .result) (f .before .before .before .if1 .left)
+          (reading (now (a .recording)) (a .place) (f .first .ensures)) (c .before .before .if3 .taken));
+      recordingKept = refl;
+    }
 
 refused-requires-2 : tie.Need-refused-requires-2
 refused-requires-2 c κs = search needs
@@ -68,8 +74,11 @@ returns-3 : tie.Need-returns-3
 returns-3 c =
     let f = c .before .before .before in
     let a = f .before .before .before .before .before .args in
-    c .refused2 .ensures ∙ sym (read-refused (now (a .recording)) (a .place) (f .first .result) (f .before .before .before .if1 .left)
-    (reading (now (a .recording)) (a .place) (f .first .ensures)) (c .before .if3 .left))
+    record {
+      reading = c .refused2 .ensures ∙ sym (read-refused (now (a .recording)) (a .place) (f .first .result) (f .before .before .before .if1 .left)
+          (reading (now (a .recording)) (a .place) (f .first .ensures)) (c .before .if3 .left));
+      recordingKept = refl;
+    }
 
 refused-requires-3 : tie.Need-refused-requires-3
 refused-requires-3 c κs = search needs
@@ -77,7 +86,10 @@ refused-requires-3 c κs = search needs
 returns-4 : tie.Need-returns-4
 returns-4 c =
     let a = c .before .before .before .before .args in
-    c .refused3 .ensures ∙ sym (read-past (now (a .recording)) (a .place) (c .before .before .if1 .left) (c .before .if2 .left))
+    record {
+      reading = c .refused3 .ensures ∙ sym (read-past (now (a .recording)) (a .place) (c .before .before .if1 .left) (c .before .if2 .left));
+      recordingKept = refl;
+    }
 
 pub read-record-spec : {M : Type 1} → statement M
 read-record-spec =
