@@ -1,16 +1,19 @@
 -- The whole case of paper 01, and the case that stops, by computation.
 use mathlib.Core.Path.{_≡_, refl}
-use Rattle.words.specs.Memory.{bytesAt, loadWord, storeWord, wordValue, wordBytes}
+use mathlib.Core.List.{[], _∷_}
+use lib.ListN.{replicate}
+use Rattle.words.specs.Memory.{memory, bytesAt, loadWord, storeWord, wordValue, wordBytes}
 use Rattle.sp.specs.Transfer.{started, lengthWritten, nextWord, ended}
 use Rattle.sp.specs.Sound.{spSound}
 use Rattle.sp.specs.Turn.{spNext, spAfter, spTaken}
 use Rattle.dp.specs.Sound.{dpSound}
 use Rattle.dp.specs.Turn.{dpTaken, dpAfter}
-use Rattle.machine.specs.Sound.{sound}
+use Rattle.machine.specs.Sound.{powerUp, sound}
 use Rattle.machine.specs.Address.{registerAt}
 use Rattle.machine.specs.Refusals.{accessRefusal, spRefusal, dpRefusal}
 use Rattle.machine.specs.Calls.{readRegister, writeRegister}
 use Rattle.machine.specs.Runs.{spRun, dpRun}
+use Rattle.laws.specs.World.{world}
 use Rattle.recording.specs.Kinds.{decoded, recordOf}
 use Rattle.recording.specs.Reader.{recordNumber}
 use Rattle.recording.specs.Split.{splitFrom}
@@ -27,6 +30,11 @@ unfolding bytes start text replay replayRefusal spRefusal accessRefusal sound sp
     spRun spTaken spAfter spNext started lengthWritten nextWord ended
     runLine foundLine verdict hex decimal leading endLine
 whole-case = (refl, refl, refl)
+
+-- 9 before 1: a recording of 16,384 bytes over an RDRAM of one byte
+pub nine-first : replayRefusal (replicate 16384 6) (world powerUp (memory (0 ∷ []) [] [])) ≡ 9
+unfolding replayRefusal spRefusal
+nine-first = refl
 
 pub stop-case : (replay stopBytes start .text ≡ stopText)
     × (replay stopBytes start .outcome .answer .number ≡ 7)

@@ -2,17 +2,32 @@
 use Prim.Native.Nat.{ℕ, zero, suc, _+_, _<_, _≤_}
 use mathlib.Core.Path.{_≡_, refl, sym, ap, _∙_}
 use mathlib.Core.Bool.{Bool, true, false}
-use mathlib.Core.List.{List, []}
+use mathlib.Core.List.{List, [], _∷_}
 use native.Mathlib.Omega.{arith}
 use lib.Dec.{ltb, leb}
 use lib.ListN.{length, drop, drop-of-length-le}
 use borrow.Author.Tests.{ltb-true, leb-true, lt-ltb, le-ltb}
+use Rattle.machine.specs.Address.{registerAt}
 use Rattle.machine.specs.Refusals.{check, ifRefused}
 use Rattle.machine.proofs.Refusals.{if-accepted, if-refused}
 use Rattle.recording.specs.declared.Record.{Record}
 use Rattle.recording.specs.declared.Reading.{Reading}
-use Rattle.recording.specs.Kinds.{isKind, bodySize, size, kindOf, recordOf}
+use Rattle.recording.specs.Kinds.{isKind, bodySize, size, decoded, kindOf, recordOf}
 use Rattle.recording.specs.Reader.{addressNumber, recordNumber, refused, found, first, shifted, longest, readRecord}
+
+-- ---- The numbers of some bytes, by computation
+
+-- No byte; kinds 0 and 10; a write that is cut in its address, which begins no register's; a write to 0x04040020; a store at 0x03F00000
+pub numbers-of-bytes : (recordNumber [] ≡ 8)
+    × (recordNumber (0 ∷ []) ≡ 7)
+    × (recordNumber (10 ∷ []) ≡ 7)
+    × (recordNumber (1 ∷ 0xFF ∷ []) ≡ 8)
+    × (recordNumber (1 ∷ 0x04 ∷ 0x04 ∷ 0x00 ∷ 0x20 ∷ 0 ∷ 0 ∷ 0 ∷ 0 ∷ []) ≡ 5)
+    × (recordNumber (8 ∷ 0x03 ∷ 0xF0 ∷ 0x00 ∷ 0x00 ∷ 0 ∷ 0 ∷ 0 ∷ 0 ∷ 0 ∷ 0 ∷ 0 ∷ 0 ∷ []) ≡ 6)
+unfolding recordNumber recordOf decoded registerAt
+numbers-of-bytes = (refl, refl, refl, refl, refl, refl)
+
+-- ---- What is known of an accepted record
 
 -- A body takes at most 12 bytes
 pub body-at-most : (kind : ℕ) → bodySize kind ≤ 12
@@ -92,10 +107,6 @@ pub first-within : (s : List ℕ) → first s .place ≤ length s
 unfolding first
 first-within s = place-within (recordNumber s) (recordOf s) (size (kindOf s)) (length s) (accepted-whole s)
 
-none-number : recordNumber [] ≡ 8
-unfolding recordNumber
-none-number = refl
-
 -- ---- What the reader gives
 
 pub read-long : (s : List ℕ) (at : ℕ) → longest < length s → readRecord s at ≡ refused 9
@@ -121,5 +132,5 @@ read-refused s at r h e z =
 pub read-past : (s : List ℕ) (at : ℕ) → length s ≤ longest → length s ≤ at → readRecord s at ≡ refused 8
 read-past s at h past =
     let f : first (drop at s) ≡ refused 8
-    = ap first (drop-of-length-le s past) ∙ first-refused [] (λ z. absurd (let e = none-number in omega arith)) ∙ ap refused none-number in
+    = ap first (drop-of-length-le s past) ∙ first-refused [] (λ z. absurd (let e = numbers-of-bytes .0 in omega arith)) ∙ ap refused (numbers-of-bytes .0) in
     read-short s at h ∙ ap (shifted at) f
