@@ -5,4 +5,5 @@ pub mod Kept
 pub mod Listed
 pub mod Run
 pub mod Lengths
+pub mod Framing
 pub mod Unchanged

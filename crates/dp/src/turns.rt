@@ -4,41 +4,27 @@ use words::fields::ram_add;
 use words::memory::load_word;
 use words::memory::store_word;
 ghost use mathlib.Core.Path.{_≡_};
-ghost use mathlib.Core.Bool.{cond};
 ghost use mathlib.Core.List.{_++_};
-ghost use Prim.Native.Nat.{_*_, _-_, _/_, _≤_, min};
-ghost use lib.Dec.{eqb};
+ghost use Prim.Native.Nat.{_*_, _/_, _%_, _≤_, min};
 ghost use lib.ListN.{drop};
 ghost use Rattle.dp.specs.Turn.{fetches, nextListWord, commandLength, framed, advanced, followed, dpNext, dpAfter, handedOut, dpTaken, roomFor};
 
-// The words of a command, by its opcode.
-fn command_length(op: u8) -> u8
-    ensures { λ r. ⌜ (r ≡ commandLength op) × (1 ≤ r) ⌝ }
-{
-    match op {
-        0x08 => 4,
-        0x09 => 6,
-        0x0A => 12,
-        0x0B => 14,
-        0x0C => 12,
-        0x0D => 14,
-        0x0E => 20,
-        0x0F => 22,
-        0x24 => 2,
-        0x25 => 2,
-        _ => 1,
-    }
-}
+// The words of the commands 0x08 to 0x0F, the triangles.
+const TRIANGLES: [u8; 8] = [4, 6, 12, 14, 12, 14, 20, 22];
 
-// The words left of a command after one more of them.
-fn words_left(left: u8, op: u8) -> u8
-    ensures { λ r. ⌜ r ≡ cond (eqb left 0) (commandLength op - 1) (left - 1) ⌝ }
+// The words of the command that begins with a byte. The table is short because the compiled code makes it anew at each use.
+fn command_length(first: u8) -> u8
+    ensures { λ r. ⌜ (r ≡ commandLength (first % 64)) × (1 ≤ r) ⌝ }
 {
-    if left == 0 {
-        command_length(op) - 1
-    } else {
-        left - 1
+    let op = first % 64;
+    if op / 8 == 1 {
+        let i = (op % 8) as usize;
+        return TRIANGLES[i];
     }
+    if op / 2 == 0x12 {
+        return 2;
+    }
+    1
 }
 
 // A budget cut to the words that n bytes of output have room for.
@@ -70,15 +56,22 @@ impl DpState {
         load_word(rdram, self.current as usize)
     }
 
-    // A word is framed.
+    // A word is framed: it goes on with a command, or begins one.
     fn framed(mut self, word: [u8; 8]) -> DpState
         ensures { λ r. ⌜ r ≡ framed self word ⌝ }
     {
-        let op = word[0] % 64;
-        let sync = (self.wordsleft == 0) & (op == 0x29);
-        self.wordsleft = words_left(self.wordsleft, op);
-        self.pipebusy = self.pipebusy & !sync;
-        self.line = self.line | sync;
+        let left = self.wordsleft;
+        if 0 < left {
+            self.wordsleft = left - 1;
+            return self;
+        }
+        let first = word[0];
+        self.wordsleft = command_length(first) - 1;
+        if first % 64 == 0x29 {
+            self.pipebusy = false;
+            self.line = true;
+            return self;
+        }
         self
     }
 
@@ -93,7 +86,10 @@ impl DpState {
     fn followed(self) -> DpState
         ensures { λ r. ⌜ r ≡ followed self ⌝ }
     {
-        if !self.runs() & self.endpending {
+        if self.runs() {
+            return self;
+        }
+        if self.endpending {
             return self.list_started();
         }
         self

@@ -60,6 +60,10 @@ accepted s value count = record { state = s; answer = record { number = 0; value
 abbrev pub declined : State → ℕ → Outcome
 declined s number = record { state = s; answer = record { number = number; value = 0; count = 0 } }
 
+-- An outcome with another value
+abbrev pub valued : Outcome → ℕ → Outcome
+valued o v = record { state = o .state; answer = record { number = o .answer .number; value = v; count = o .answer .count } }
+
 -- By the number of a call's checks: where one failed the first of two, else the second
 abbrev pub ifRefused : {A : Type 0} → ℕ → A → A → A
 ifRefused zero refused done = done

@@ -29,7 +29,8 @@ impl State {
     }
 }
 
-// What a call gives back beside the state: the refusal's number or 0, a value and a count.
+// What a call gives back beside the state: the refusal's number or 0, a value and a count. Host programs get it as it is.
+#[repr(C)]
 pub struct Answer {
     pub number: u32,
     pub value: u64,

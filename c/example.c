@@ -1,0 +1,44 @@
+/* Loads two words to the end of IMEM, where the second wraps to its start, and then replays the same traffic as a recording.
+ *
+ *     rt staticlib ofersky
+ *     cc -I c c/example.c target/staticlib/libofersky.a -o example && ./example
+ */
+#include "ofersky.h"
+
+#include <stdio.h>
+
+static uint8_t rdram[32768], dmem[4096], imem[4096];
+
+/* A register write whose refusal, if there is one, is shown. */
+static ofersky_state written(ofersky_state s, uint32_t address, uint32_t value) {
+    ofersky_outcome o = ofersky_write_register(s, address, value);
+    if (o.answer.number != 0) printf("write %08X: refused by %u\n", address, o.answer.number);
+    return o.state;
+}
+
+static void calls(void) {
+    ofersky_state s = ofersky_power_up();
+    s = written(s, 0x04040000, 0x1FF8); /* SPADDR: the last word of IMEM */
+    s = written(s, 0x04040008, 0x0F);   /* RDLEN: two words */
+    s = written(s, 0x04040020, 0);      /* no register */
+    ofersky_outcome ran = ofersky_sp_run(s, 100, rdram, sizeof rdram, dmem, sizeof dmem, imem, sizeof imem);
+    ofersky_outcome read = ofersky_read_register(ran.state, 0x04040000);
+    printf("moved %u words, SPADDR %08X\n", ran.answer.count, (unsigned)read.answer.value);
+    ran.state.sp.busy = 2; /* no flag: an unsound state */
+    printf("refused by %u\n", ofersky_tick(ran.state, 1).answer.number);
+}
+
+static void recording(void) {
+    static const uint8_t bytes[] = {1, 4, 4, 0, 0, 0, 0, 0x1F, 0xF8, 1, 4, 4, 0, 8, 0, 0, 0, 0x0F,
+                                    3, 0, 0, 0, 2, 2, 4,    4,    0, 0, 0, 0, 0x10, 8};
+    static uint8_t listing[OFERSKY_LISTING_BYTES];
+    ofersky_replayed done = ofersky_replay(ofersky_power_up(), bytes, sizeof bytes, rdram, sizeof rdram, dmem, sizeof dmem, imem, sizeof imem,
+                                           listing, sizeof listing);
+    fwrite(listing, 1, done.written, stdout);
+}
+
+int main(void) {
+    calls();
+    recording();
+    return 0;
+}

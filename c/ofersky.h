@@ -1,0 +1,129 @@
+/* Two DMA engines over lent memory, sixteen registers and two interrupt lines; recordings and their replay.
+ *
+ * Link target/staticlib/libofersky.a, which `rt staticlib ofersky` writes (x86-64 Linux).
+ *
+ * Every call takes every value of its parameters and answers it. Bad input is refused by the first number that applies: the state comes
+ * back as handed in, value and count are 0, and no lent byte differs. What a caller owes is what C always asks: a pointer points to as many
+ * bytes as the length beside it says (with length 0 it is still not NULL), and memory that a call may write overlaps nothing else that it is lent.
+ *
+ *   0 success                            5 not one of the sixteen register addresses
+ *   1 RDRAM length not allowed           6 memory record address not allowed
+ *   2 DMEM not 4,096 bytes               7 unknown record kind
+ *   3 IMEM not 4,096 bytes               8 record cut short
+ *   4 state not sound                    9 recording longer than 16,383 bytes
+ */
+#ifndef OFERSKY_H
+#define OFERSKY_H
+
+#include <stdbool.h>
+#include <stddef.h>
+#include <stdint.h>
+
+#ifdef __cplusplus
+extern "C" {
+#endif
+
+/* The registers of the SP engine. A flag is a byte, 0 or 1; any other byte makes the state unsound. */
+typedef struct {
+    uint32_t splatch, ramlatch;           /* what the next transfer starts from */
+    uint32_t spaddr, ramaddr;             /* the running or last transfer; bit 12 of SPADDR picks IMEM */
+    uint32_t len, count, skip, row;       /* row: LEN at the start */
+    uint32_t waiting;                     /* the length word that waits, or waited last */
+    uint8_t busy, storing, full;          /* storing: from the bank into RDRAM */
+    uint8_t waitstoring;                  /* the direction that waits, or waited last */
+    uint8_t halted, broke, sstep, intbreak;
+    uint8_t signals;                      /* no flag: SIG0 to SIG7 are bits 0 to 7 */
+    uint8_t line;                         /* the SP interrupt line */
+    uint8_t semaphore;
+} ofersky_sp;
+
+/* The registers of the DP engine. */
+typedef struct {
+    uint32_t start, end;                  /* as last written */
+    uint32_t current, limit;              /* the running list: the next word's address, and the list's end */
+    uint32_t clock, cmdcount, pipecount, tmemcount;
+    uint8_t startpending, endpending;
+    uint8_t xbus, freeze, flush, pipebusy;
+    uint8_t wordsleft;                    /* no flag: the words left of the command that is being fetched */
+    uint8_t line;                         /* the DP interrupt line */
+} ofersky_dp;
+
+typedef struct {
+    ofersky_sp sp;
+    ofersky_dp dp;
+} ofersky_state;
+
+typedef struct {
+    uint32_t number; /* 0, or the refusal's */
+    uint64_t value;
+    uint32_t count;
+} ofersky_answer;
+
+typedef struct {
+    ofersky_state state;
+    ofersky_answer answer;
+} ofersky_outcome;
+
+/* Where the next drawing word stands: in RDRAM (memory 0) or in DMEM (memory 1), length bytes from offset on. The length is 8, or 0. */
+typedef struct {
+    uint32_t memory, offset, length;
+} ofersky_part;
+
+/* A record. The value is the second field of kinds 1, 2, 8 and 9, and the only one of kinds 3, 4 and 5; a field that a kind does not have is 0. */
+typedef struct {
+    uint64_t value;
+    uint32_t address;
+    uint8_t kind;
+} ofersky_record;
+
+/* The record and the place after it; declined: kind 0, place 0 and the number. */
+typedef struct {
+    ofersky_record item;
+    size_t place;
+    uint32_t number;
+} ofersky_reading;
+
+typedef struct {
+    ofersky_outcome outcome; /* its count is the number of accepted records */
+    size_t written;          /* bytes of the listing */
+} ofersky_replayed;
+
+/* As many bytes always suffice for a listing. */
+#define OFERSKY_LISTING_BYTES 69198
+
+ofersky_state ofersky_power_up(void);
+bool ofersky_is_sound(ofersky_state s);
+
+/* Registers by address, ticks, a BREAK, the acknowledge of the DP interrupt. Refusals: 4; for registers then 5. */
+ofersky_outcome ofersky_read_register(ofersky_state s, uint32_t address);
+ofersky_outcome ofersky_write_register(ofersky_state s, uint32_t address, uint32_t value);
+ofersky_outcome ofersky_tick(ofersky_state s, uint32_t n);
+ofersky_outcome ofersky_sp_break(ofersky_state s);
+ofersky_outcome ofersky_acknowledge(ofersky_state s);
+
+/* One SP turn; or turns until the budget is used or the engine is idle. Refusals: 1, 2, 3, 4. */
+ofersky_outcome ofersky_sp_turn(ofersky_state s, uint8_t *rdram, size_t rdram_bytes, uint8_t *dmem, size_t dmem_bytes, uint8_t *imem,
+                                size_t imem_bytes);
+ofersky_outcome ofersky_sp_run(ofersky_state s, uint32_t budget, uint8_t *rdram, size_t rdram_bytes, uint8_t *dmem, size_t dmem_bytes,
+                               uint8_t *imem, size_t imem_bytes);
+
+/* One DP turn, whose value is the word fetched; or turns until the budget is used, nothing is fetched or out is full. Refusals: 1, 2, 4. */
+ofersky_outcome ofersky_dp_turn(ofersky_state s, const uint8_t *rdram, size_t rdram_bytes, const uint8_t *dmem, size_t dmem_bytes);
+ofersky_outcome ofersky_dp_run(ofersky_state s, uint32_t budget, const uint8_t *rdram, size_t rdram_bytes, const uint8_t *dmem,
+                               size_t dmem_bytes, uint8_t *out, size_t out_bytes);
+
+/* Where the word stands that the next DP turn would hand out, or an empty part. It has no number. */
+ofersky_part ofersky_look_ahead(ofersky_state s, const uint8_t *rdram, size_t rdram_bytes, const uint8_t *dmem, size_t dmem_bytes);
+
+/* The record at a place of a recording. Refusals: 9, 7, 8, 5, 6. */
+ofersky_reading ofersky_read_record(const uint8_t *recording, size_t recording_bytes, size_t place);
+
+/* Replays a recording and writes its listing to out. Refusals: 9, 1, 2, 3, 4 before the first record; then its records': 7, 8, 5, 6. */
+ofersky_replayed ofersky_replay(ofersky_state s, const uint8_t *recording, size_t recording_bytes, uint8_t *rdram, size_t rdram_bytes,
+                                uint8_t *dmem, size_t dmem_bytes, uint8_t *imem, size_t imem_bytes, uint8_t *out, size_t out_bytes);
+
+#ifdef __cplusplus
+}
+#endif
+
+#endif

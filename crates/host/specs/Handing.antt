@@ -1,0 +1,36 @@
+-- What is proved of states that cross to a host and back, and of the calls that are handed them.
+use Prim.Native.Nat.{ℕ, suc}
+use mathlib.Core.Path.{_≡_}
+use mathlib.Core.Bool.{true, false}
+use Rattle.machine.specs.declared.State.{State}
+use Rattle.machine.specs.declared.Outcome.{Outcome}
+use Rattle.machine.specs.Sound.{sound}
+use Rattle.machine.specs.Refusals.{Answers}
+use Rattle.host.specs.declared.HostState.{HostState}
+use Rattle.host.specs.declared.HostOutcome.{HostOutcome}
+use Rattle.host.specs.States.{flags, decoded, encoded, handed}
+
+-- Of whatever bytes a host hands over
+pub record FromHost (h : HostState) : Type 0 where
+  -- A byte that is no flag makes the state unsound
+  pub noFlag : flags h ≡ false → sound (decoded h) ≡ false
+  -- Otherwise the bytes come back as they were
+  pub same : flags h ≡ true → encoded (decoded h) ≡ h
+
+-- Of every state that a host gets
+pub record ToHost (s : State) : Type 0 where
+  pub flagged : flags (encoded s) ≡ true
+  pub same : decoded (encoded s) ≡ s
+
+-- Declined: the number, value 0, count 0, and the state as handed in, byte for byte
+abbrev pub refusedHost : HostState → ℕ → HostOutcome
+refusedHost h number = record { state = h; answer = record { number = number; value = 0; count = 0 } }
+
+abbrev pub encodedOutcome : Outcome → HostOutcome
+encodedOutcome o = record { state = encoded (o .state); answer = o .answer }
+
+-- Of a call with number n that gave o on the state that h stands for. `machine/proofs/Refusals.antt` shows `Answers` of every call
+pub record CallFromHost (h : HostState) (n : ℕ) (o : Outcome) : Type 0 where
+  pub declined : (k : ℕ) → n ≡ suc k → handed h o ≡ refusedHost h n
+  -- On a state that is sound it is the call itself
+  pub made : sound (decoded h) ≡ true → handed h o ≡ encodedOutcome o

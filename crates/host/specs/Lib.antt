@@ -1,0 +1,5 @@
+pub mod States
+pub mod Records
+pub mod Parts
+pub mod Promised
+pub mod Handing

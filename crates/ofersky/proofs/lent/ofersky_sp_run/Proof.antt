@@ -1,0 +1,45 @@
+use Rattle.words.specs.Memory.{memory}
+use mathlib.Core.Path.{ap, _∙_}
+use Rattle.machine.specs.Runs.{spRun, spRunMemory}
+use Rattle.ofersky.proofs.Handed.{handed-given}
+use borrow.Author.Needs.{needs}
+use Rattle.ofersky.proofs.lent.ofersky_sp_run.Statement.{statement}
+use Rattle.ofersky.proofs.lent.ofersky_sp_run.Tie as tie
+
+decoded-requires : tie.Need-decoded-requires
+decoded-requires c κs = search needs
+
+sp-run-requires : tie.Need-sp-run-requires
+sp-run-requires c κs = search needs
+
+handed-requires : tie.Need-handed-requires
+handed-requires c κs = search needs
+
+same-length : tie.Need-same-length
+same-length c = search needs
+
+same-length-2 : tie.Need-same-length-2
+same-length-2 c = search needs
+
+same-length-3 : tie.Need-same-length-3
+same-length-3 c = search needs
+
+returns : tie.Need-returns
+returns c =
+    let d = c .before .before .before .before .before .before .before .before .before .before .before .decoded .ensures in
+    let g = c .before .before .before .before .before .before .before .sp-run .ensures in
+    let a = c .before .before .before .before .before .before .before .before .before .before .before .before .before .before .before .args in
+    let m = memory (a .rdram .now) (a .dmem .now) (a .imem .now) in
+    (handed-given (a .s) (λ t. spRun t (a .budget) m) d (g .outcome) (c .handed .ensures), g .bytes ∙ ap (λ t. spRunMemory t (a .budget) m) d)
+
+pub ofersky-sp-run-spec : {M : Type 1} → statement M
+ofersky-sp-run-spec =
+    tie.close
+    (tie.spec
+    decoded-requires
+    sp-run-requires
+    handed-requires
+    same-length
+    same-length-2
+    same-length-3
+    returns)

@@ -1,0 +1,148 @@
+use borrow.Author.Needs.{needs}
+use Rattle.ofersky.proofs.recordings.record_handed.Statement.{statement}
+use Rattle.ofersky.proofs.recordings.record_handed.Tie as tie
+
+enum-told : tie.Need-enum-told
+enum-told c = search needs
+
+of-kind-requires : tie.Need-of-kind-requires
+of-kind-requires c κs = search needs
+
+enum-known-item : tie.Need-enum-known-item
+enum-known-item c = search needs
+
+cast-of-kind : tie.Need-cast-of-kind
+cast-of-kind c = search needs
+
+of-kind-requires-2 : tie.Need-of-kind-requires-2
+of-kind-requires-2 c κs = search needs
+
+enum-known-item-2 : tie.Need-enum-known-item-2
+enum-known-item-2 c = search needs
+
+cast-of-kind-2 : tie.Need-cast-of-kind-2
+cast-of-kind-2 c = search needs
+
+of-kind-requires-3 : tie.Need-of-kind-requires-3
+of-kind-requires-3 c κs = search needs
+
+enum-known-item-3 : tie.Need-enum-known-item-3
+enum-known-item-3 c = search needs
+
+cast-of-kind-3 : tie.Need-cast-of-kind-3
+cast-of-kind-3 c = search needs
+
+of-kind-requires-4 : tie.Need-of-kind-requires-4
+of-kind-requires-4 c κs = search needs
+
+enum-known-item-4 : tie.Need-enum-known-item-4
+enum-known-item-4 c = search needs
+
+cast-of-kind-4 : tie.Need-cast-of-kind-4
+cast-of-kind-4 c = search needs
+
+of-kind-requires-5 : tie.Need-of-kind-requires-5
+of-kind-requires-5 c κs = search needs
+
+enum-known-item-5 : tie.Need-enum-known-item-5
+enum-known-item-5 c = search needs
+
+cast-of-kind-5 : tie.Need-cast-of-kind-5
+cast-of-kind-5 c = search needs
+
+of-kind-requires-6 : tie.Need-of-kind-requires-6
+of-kind-requires-6 c κs = search needs
+
+enum-told-2 : tie.Need-enum-told-2
+enum-told-2 c = search needs
+
+of-kind-requires-7 : tie.Need-of-kind-requires-7
+of-kind-requires-7 c κs = search needs
+
+enum-told-3 : tie.Need-enum-told-3
+enum-told-3 c = search needs
+
+of-kind-requires-8 : tie.Need-of-kind-requires-8
+of-kind-requires-8 c κs = search needs
+
+enum-known-item-6 : tie.Need-enum-known-item-6
+enum-known-item-6 c = search needs
+
+of-kind-requires-9 : tie.Need-of-kind-requires-9
+of-kind-requires-9 c κs = search needs
+
+enum-known-item-7 : tie.Need-enum-known-item-7
+enum-known-item-7 c = search needs
+
+of-kind-requires-10 : tie.Need-of-kind-requires-10
+of-kind-requires-10 c κs = search needs
+
+returns : tie.Need-returns
+returns c = cc
+
+returns-2 : tie.Need-returns-2
+returns-2 c = cc
+
+returns-3 : tie.Need-returns-3
+returns-3 c = cc
+
+returns-4 : tie.Need-returns-4
+returns-4 c = cc
+
+returns-5 : tie.Need-returns-5
+returns-5 c = cc
+
+returns-6 : tie.Need-returns-6
+returns-6 c = cc
+
+returns-7 : tie.Need-returns-7
+returns-7 c = cc
+
+returns-8 : tie.Need-returns-8
+returns-8 c = cc
+
+returns-9 : tie.Need-returns-9
+returns-9 c = cc
+
+returns-10 : tie.Need-returns-10
+returns-10 c = cc
+
+pub record-handed-spec : {M : Type 1} → statement M
+record-handed-spec =
+    tie.close
+    (tie.spec
+    enum-told
+    of-kind-requires
+    enum-known-item
+    cast-of-kind
+    of-kind-requires-2
+    enum-known-item-2
+    cast-of-kind-2
+    of-kind-requires-3
+    enum-known-item-3
+    cast-of-kind-3
+    of-kind-requires-4
+    enum-known-item-4
+    cast-of-kind-4
+    of-kind-requires-5
+    enum-known-item-5
+    cast-of-kind-5
+    of-kind-requires-6
+    enum-told-2
+    of-kind-requires-7
+    enum-told-3
+    of-kind-requires-8
+    enum-known-item-6
+    of-kind-requires-9
+    enum-known-item-7
+    of-kind-requires-10
+    returns
+    returns-2
+    returns-3
+    returns-4
+    returns-5
+    returns-6
+    returns-7
+    returns-8
+    returns-9
+    returns-10)

@@ -1,0 +1,134 @@
+//! The memory that every timed call works on, and what a call leaves in it.
+
+use crate::plain::{Bank, Machine, Ran};
+use crate::random::Random;
+
+/// RDRAM, the banks and room for output. All three columns of a line use the same bytes.
+#[derive(Clone, PartialEq)]
+pub struct Buffers {
+    pub rdram: Vec<u8>,
+    pub dmem: Box<Bank>,
+    pub imem: Box<Bank>,
+    pub out: Vec<u8>,
+}
+
+impl Buffers {
+    /// Every byte is written once, so that no timed call is the first to touch a page.
+    pub fn new(rdram: usize, out: usize) -> Buffers {
+        let mut random = Random::new();
+        let mut buffers = Buffers {
+            rdram: vec![0; rdram],
+            dmem: Box::new([0; 4096]),
+            imem: Box::new([0; 4096]),
+            out: vec![0xFF; out],
+        };
+        for bytes in [
+            &mut buffers.rdram[..],
+            &mut buffers.dmem[..],
+            &mut buffers.imem[..],
+        ] {
+            random.fill(bytes);
+        }
+        buffers
+    }
+}
+
+/// What a call leaves beside the bytes.
+#[derive(Debug, PartialEq)]
+pub struct Left {
+    state: ofersky::State,
+    count: u32,
+}
+
+impl From<ofersky::Outcome> for Left {
+    fn from(outcome: ofersky::Outcome) -> Left {
+        assert_eq!(outcome.answer.number, 0);
+        Left {
+            state: outcome.state,
+            count: outcome.answer.count,
+        }
+    }
+}
+
+impl From<ofersky::Replayed> for Left {
+    fn from(replayed: ofersky::Replayed) -> Left {
+        replayed.outcome.into()
+    }
+}
+
+impl From<Ran> for Left {
+    fn from(ran: Ran) -> Left {
+        Left {
+            state: state_of(&ran.machine),
+            count: ran.count,
+        }
+    }
+}
+
+/// A plain machine as the library's state.
+pub fn state_of(machine: &Machine) -> ofersky::State {
+    ofersky::State {
+        sp: sp_state(machine),
+        dp: dp_state(machine),
+    }
+}
+
+fn sp_state(machine: &Machine) -> ofersky::SpState {
+    let sp = &machine.sp;
+    ofersky::SpState {
+        splatch: sp.splatch,
+        ramlatch: sp.ramlatch,
+        spaddr: sp.spaddr,
+        ramaddr: sp.ramaddr,
+        len: sp.len,
+        count: sp.count,
+        skip: sp.skip,
+        row: sp.row,
+        waiting: sp.waiting,
+        busy: sp.busy.into(),
+        storing: sp.storing.into(),
+        full: sp.full.into(),
+        waitstoring: sp.waitstoring.into(),
+        halted: sp.halted.into(),
+        broke: sp.broke.into(),
+        sstep: sp.sstep.into(),
+        intbreak: sp.intbreak.into(),
+        signals: sp.signals,
+        line: sp.line.into(),
+        semaphore: sp.semaphore.into(),
+    }
+}
+
+fn dp_state(machine: &Machine) -> ofersky::DpState {
+    let dp = &machine.dp;
+    ofersky::DpState {
+        start: dp.start,
+        end: dp.end,
+        current: dp.current,
+        limit: dp.limit,
+        clock: dp.clock,
+        cmdcount: dp.cmdcount,
+        pipecount: dp.pipecount,
+        tmemcount: dp.tmemcount,
+        startpending: dp.startpending.into(),
+        endpending: dp.endpending.into(),
+        xbus: dp.xbus.into(),
+        freeze: dp.freeze.into(),
+        flush: dp.flush.into(),
+        pipebusy: dp.pipebusy.into(),
+        wordsleft: dp.wordsleft,
+        line: dp.line.into(),
+    }
+}
+
+/// A machine after register writes from power-up, in plain Rust and in the library.
+pub fn written(writes: &[(u32, u32)]) -> (Machine, ofersky::State) {
+    let mut machine = Machine::default();
+    let mut state = ofersky::power_up();
+    for &(address, value) in writes {
+        machine.write(address, value);
+        state = ofersky::write_register(state, address, value).state;
+    }
+    assert_eq!(state_of(&machine), state);
+    (machine, state)
+}

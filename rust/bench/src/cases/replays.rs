@@ -1,0 +1,134 @@
+//! Whole replays. The cost of a record must not grow with the recording.
+
+use super::{CURRENT, DP_STATUS, END, RAMADDR, RDLEN, SPADDR, SP_STATUS, START, WRLEN};
+use crate::buffers::Buffers;
+use crate::plain::replay::Lent;
+use crate::plain::{Machine, Ran};
+use crate::random::Random;
+use crate::timing::{measure, Line};
+
+const RDRAM: usize = 32_768;
+
+/// Groups of 24 records in 200 bytes.
+const GROUPS: [usize; 2] = [7, 70];
+
+/// A recording in the making, and the machine that it leads to: reads and checks expect what is there.
+struct Recorder {
+    bytes: Vec<u8>,
+    records: usize,
+    machine: Machine,
+    buffers: Buffers,
+    words: [u8; 2048],
+}
+
+impl Recorder {
+    fn new() -> Recorder {
+        Recorder {
+            bytes: Vec::new(),
+            records: 0,
+            machine: Machine::default(),
+            buffers: Buffers::new(RDRAM, ofersky::LISTING_BYTES),
+            words: [0; 2048],
+        }
+    }
+
+    /// Adds a record and does it.
+    fn record(&mut self, kind: u8, fields: &[&[u8]]) {
+        let at = self.bytes.len();
+        self.bytes.push(kind);
+        self.bytes.extend(fields.concat());
+        self.records += 1;
+        let lent = Lent {
+            rdram: &mut self.buffers.rdram,
+            dmem: &mut self.buffers.dmem,
+            imem: &mut self.buffers.imem,
+            words: &mut self.words,
+        };
+        self.machine
+            .replay(&self.bytes[at..], lent, &mut self.buffers.out);
+    }
+
+    fn write(&mut self, address: u32, value: u32) {
+        self.record(1, &[&address.to_be_bytes(), &value.to_be_bytes()]);
+    }
+
+    fn read(&mut self, address: u32) {
+        // A copy is asked: reading may change the machine, and doing the record will.
+        let found = { self.machine }.read(address);
+        self.record(2, &[&address.to_be_bytes(), &found.to_be_bytes()]);
+    }
+
+    fn store(&mut self, address: u32, word: u64) {
+        self.record(8, &[&address.to_be_bytes(), &word.to_be_bytes()]);
+    }
+
+    /// Checks a word of DMEM.
+    fn check(&mut self, offset: usize) {
+        let found: [u8; 8] = self.buffers.dmem[offset..][..8].try_into().unwrap();
+        let address = 0x0400_0000 + offset as u32;
+        self.record(9, &[&address.to_be_bytes(), &found]);
+    }
+
+    /// Stores six words, loads or stores eight by the SP, fetches the six by the DP, and looks at what it did.
+    fn group(&mut self, random: &mut Random) {
+        let ram = 8 * random.below(RDRAM as u64 / 8 - 8) as u32;
+        let offset = 8 * random.below(504) as usize;
+        for i in 0..6 {
+            self.store(ram + 8 * i, random.next());
+        }
+        self.write(SPADDR, offset as u32);
+        self.write(RAMADDR, ram);
+        self.write(if random.below(4) == 0 { WRLEN } else { RDLEN }, 0x3F);
+        self.record(3, &[&100u32.to_be_bytes()]);
+        self.read(SP_STATUS);
+        self.read(SPADDR);
+        self.check(offset);
+        self.record(6, &[]);
+        self.write(START, ram);
+        self.write(END, ram + 48);
+        self.record(4, &[&100u32.to_be_bytes()]);
+        self.record(7, &[]);
+        self.read(CURRENT);
+        self.read(DP_STATUS);
+        self.record(5, &[&(random.below(1000) as u32).to_be_bytes()]);
+        self.write(SP_STATUS, 1 << random.below(25));
+        self.record(6, &[]);
+        self.record(7, &[]);
+    }
+}
+
+pub fn all(show: &mut dyn FnMut(Line)) {
+    for groups in GROUPS {
+        let mut recorder = Recorder::new();
+        let mut random = Random::new();
+        for _ in 0..groups {
+            recorder.group(&mut random);
+        }
+        show(replayed(&recorder.bytes, recorder.records));
+    }
+}
+
+fn replayed(recording: &[u8], records: usize) -> Line {
+    measure(
+        format!("replay of {} bytes", recording.len()),
+        records,
+        &mut Buffers::new(RDRAM, ofersky::LISTING_BYTES),
+        |b| {
+            let (dmem, imem) = (&mut b.dmem[..], &mut b.imem[..]);
+            let state = ofersky::power_up();
+            ofersky::replay(state, recording, &mut b.rdram, dmem, imem, &mut b.out)
+        },
+        |b| {
+            let lent = Lent {
+                rdram: &mut b.rdram,
+                dmem: &mut b.dmem,
+                imem: &mut b.imem,
+                words: &mut [0; 2048],
+            };
+            let mut machine = Machine::default();
+            let count = machine.replay(recording, lent, &mut b.out);
+            Ran { machine, count }
+        },
+        |b| b.out[..recording.len()].copy_from_slice(recording),
+    )
+}

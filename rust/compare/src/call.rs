@@ -1,0 +1,95 @@
+//! A call with all that it is handed.
+
+use crate::memory::Lent;
+use ofersky::State;
+
+/// A public call and its arguments other than the state and the memories. `out` is the length of the output that is lent.
+#[derive(Clone, Debug, PartialEq, Eq)]
+pub enum Call {
+    PowerUp,
+    IsSound,
+    Read { address: u32 },
+    Write { address: u32, value: u32 },
+    Tick { n: u32 },
+    Break,
+    Acknowledge,
+    SpTurn,
+    SpRun { budget: u32 },
+    DpTurn,
+    DpRun { budget: u32, out: usize },
+    Look,
+    ReadRecord { recording: Vec<u8>, place: usize },
+    Replay { recording: Vec<u8>, out: usize },
+}
+
+/// A call on a state and memories.
+#[derive(Clone, Debug, PartialEq, Eq)]
+pub struct Case {
+    pub state: State,
+    pub lent: Lent,
+    pub call: Call,
+}
+
+/// The names of the calls, in the order of `Call::index`.
+pub const NAMES: [&str; 14] = [
+    "power_up",
+    "is_sound",
+    "read_register",
+    "write_register",
+    "tick",
+    "sp_break",
+    "acknowledge",
+    "sp_turn",
+    "sp_run",
+    "dp_turn",
+    "dp_run",
+    "look_ahead",
+    "read_record",
+    "replay",
+];
+
+impl Call {
+    pub fn index(&self) -> usize {
+        match self {
+            Call::PowerUp => 0,
+            Call::IsSound => 1,
+            Call::Read { .. } => 2,
+            Call::Write { .. } => 3,
+            Call::Tick { .. } => 4,
+            Call::Break => 5,
+            Call::Acknowledge => 6,
+            Call::SpTurn => 7,
+            Call::SpRun { .. } => 8,
+            Call::DpTurn => 9,
+            Call::DpRun { .. } => 10,
+            Call::Look => 11,
+            Call::ReadRecord { .. } => 12,
+            Call::Replay { .. } => 13,
+        }
+    }
+
+    pub fn name(&self) -> &'static str {
+        NAMES[self.index()]
+    }
+
+    /// Does it take any of the three memories?
+    pub fn takes_memory(&self) -> bool {
+        matches!(
+            self,
+            Call::SpTurn
+                | Call::SpRun { .. }
+                | Call::DpTurn
+                | Call::DpRun { .. }
+                | Call::Look
+                | Call::Replay { .. }
+        )
+    }
+
+    /// The length of the output that it is lent, 0 where it takes none.
+    pub fn out(&self) -> usize {
+        match self {
+            Call::DpRun { out, .. } | Call::Replay { out, .. } => *out,
+            _ => 0,
+        }
+    }
+}

@@ -1,0 +1,89 @@
+//! Where two sides differ, in words.
+
+use crate::fields::FIELDS;
+use crate::seen::Seen;
+use ofersky::{Part, Reading};
+
+/// The memories in the order of `Seen::bytes`.
+const MEMORIES: [&str; 5] = ["RDRAM", "DMEM", "IMEM", "output", "next word"];
+
+/// One line for each part that differs, none where both sides agree.
+pub fn differences(expected: &Seen, given: &Seen) -> Vec<String> {
+    if expected == given {
+        return Vec::new();
+    }
+    let mut lines = Vec::new();
+    let numbers = numbers(expected).into_iter().zip(numbers(given));
+    for ((name, expected), (_, given)) in numbers {
+        if expected != given {
+            lines.push(format!(
+                "{name}: expected 0x{expected:X} by the model, given 0x{given:X} by the library"
+            ));
+        }
+    }
+    for (name, (expected, given)) in MEMORIES.iter().zip(expected.bytes.iter().zip(&given.bytes)) {
+        lines.extend(bytes(name, expected, given));
+    }
+    lines
+}
+
+/// Every number that a call gives, with its name.
+fn numbers(seen: &Seen) -> Vec<(&'static str, u64)> {
+    let answer = seen.outcome.answer;
+    let Part {
+        memory,
+        offset,
+        length,
+    } = seen.part;
+    let Reading {
+        item,
+        place,
+        number,
+    } = seen.reading;
+    let mut numbers = vec![
+        ("number", answer.number.into()),
+        ("value", answer.value),
+        ("count", answer.count.into()),
+        ("sound", seen.sound.into()),
+        ("part.memory", memory.into()),
+        ("part.offset", offset.into()),
+        ("part.length", length.into()),
+        ("reading.number", number.into()),
+        ("reading.kind", item.kind.into()),
+        ("reading.address", item.address.into()),
+        ("reading.value", item.value),
+        ("reading.place", place as u64),
+        ("written", seen.written as u64),
+        ("bytes beside the lent ones changed", seen.outside.into()),
+    ];
+    let state = &seen.outcome.state;
+    numbers.extend(FIELDS.iter().map(|field| (field.name, (field.get)(state))));
+    numbers
+}
+
+/// The first word that differs in a memory, and how many bytes differ in all.
+fn bytes(name: &str, expected: &[u8], given: &[u8]) -> Option<String> {
+    if expected == given {
+        return None;
+    }
+    if expected.len() != given.len() {
+        let (expected, given) = (expected.len(), given.len());
+        return Some(format!(
+            "{name}: {expected} bytes expected by the model, {given} given by the library"
+        ));
+    }
+    let differs = |i: &usize| expected[*i] != given[*i];
+    let places: Vec<usize> = (0..expected.len()).filter(differs).collect();
+    let first = places[0] / 8 * 8;
+    let last = (first + 8).min(expected.len());
+    Some(format!(
+        "{name} at 0x{first:X}: expected {} by the model, given {} by the library; bytes that differ: {}",
+        hex(&expected[first..last]),
+        hex(&given[first..last]),
+        places.len()
+    ))
+}
+
+pub fn hex(bytes: &[u8]) -> String {
+    bytes.iter().map(|byte| format!("{byte:02X}")).collect()
+}

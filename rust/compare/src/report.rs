@@ -1,0 +1,68 @@
+//! A case in words, so that a reader can do it again by hand.
+
+use crate::call::{Call, Case};
+use crate::difference::hex;
+use crate::fields::FIELDS;
+use crate::records::{address_name, readable};
+use ofersky::State;
+
+/// The whole report of a difference.
+pub fn report(noun: &str, compared: u64, case: &Case, differences: &[String]) -> String {
+    format!(
+        "difference at {noun} {compared}; the smallest that shows it:\n{}differs:\n  {}\n",
+        describe(case),
+        differences.join("\n  ")
+    )
+}
+
+/// A case in full.
+pub fn describe(case: &Case) -> String {
+    let mut text = format!("{}{}\n", case.call.name(), arguments(&case.call));
+    if !matches!(case.call, Call::PowerUp | Call::ReadRecord { .. }) {
+        text += &format!("state: {}\n", state(&case.state));
+    }
+    if case.call.takes_memory() {
+        let lent = case.lent;
+        text += &format!(
+            "memory: RDRAM {} bytes, DMEM {}, IMEM {}, ",
+            lent.rdram, lent.dmem, lent.imem
+        );
+        text += &match lent.fill {
+            0 => "all zeros\n".to_string(),
+            fill => format!("pattern {fill}\n"),
+        };
+    }
+    if let Call::Replay { recording, .. } | Call::ReadRecord { recording, .. } = &case.call {
+        let shown = hex(&recording[..recording.len().min(2_048)]);
+        text += &format!("recording of {} bytes: {shown}\n", recording.len());
+        text += &readable(recording);
+    }
+    text
+}
+
+fn arguments(call: &Call) -> String {
+    match call {
+        Call::Read { address } => format!(" {}", address_name(*address)),
+        Call::Write { address, value } => format!(" {} 0x{value:08X}", address_name(*address)),
+        Call::Tick { n } => format!(" 0x{n:X}"),
+        Call::SpRun { budget } => format!(", budget 0x{budget:X}"),
+        Call::DpRun { budget, out } => format!(", budget 0x{budget:X}, output of {out} bytes"),
+        Call::ReadRecord { place, .. } => format!(" at place {place}"),
+        Call::Replay { out, .. } => format!(", listing buffer of {out} bytes"),
+        _ => String::new(),
+    }
+}
+
+/// The fields that are not zero.
+fn state(state: &State) -> String {
+    let fields: Vec<String> = FIELDS
+        .iter()
+        .filter(|field| (field.get)(state) != 0)
+        .map(|field| format!("{} 0x{:X}", field.name, (field.get)(state)))
+        .collect();
+    if fields.is_empty() {
+        "as at power-up".to_string()
+    } else {
+        fields.join(", ")
+    }
+}

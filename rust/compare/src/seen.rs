@@ -1,0 +1,192 @@
+//! What a call gives and leaves: all of it, on either side.
+
+use crate::call::{Call, Case};
+use crate::fields::{from_model, to_model};
+use crate::guard::Guarded;
+use crate::memory::output;
+use model::calls;
+use ofersky::{Answer, Outcome, Part, Reading, Record, State};
+
+/// All that can be seen of a call. A field that the call does not give is zero on both sides.
+#[derive(Clone, Debug, Default, PartialEq, Eq)]
+pub struct Seen {
+    pub outcome: Outcome,
+    pub sound: bool,
+    pub part: Part,
+    pub reading: Reading,
+    pub written: usize,
+    /// A byte beside a lent memory or output was changed.
+    pub outside: bool,
+    /// The bytes of RDRAM, DMEM, IMEM, of the output, and those of the next word after a look.
+    pub bytes: [Vec<u8>; 5],
+}
+
+/// A side of the comparison.
+pub type Side = fn(&Case) -> Seen;
+
+impl Seen {
+    /// Memory as it is lent. A call that takes none gets no bytes to compare.
+    fn lent(case: &Case) -> Seen {
+        let [rdram, dmem, imem] = if case.call.takes_memory() {
+            case.lent.bytes()
+        } else {
+            Default::default()
+        };
+        Seen {
+            bytes: [rdram, dmem, imem, output(case.call.out()), Vec::new()],
+            ..Seen::default()
+        }
+    }
+
+    /// The number of the refusal, wherever the call gives it.
+    pub fn number(&self) -> u32 {
+        self.outcome.answer.number + self.reading.number
+    }
+}
+
+/// The library's side.
+pub fn library(case: &Case) -> Seen {
+    let mut seen = Seen::lent(case);
+    if !case.call.takes_memory() {
+        call_library(case, &mut seen, [&mut [], &mut [], &mut [], &mut []]);
+        return seen;
+    }
+    let shift = case.lent.fill as usize % 8;
+    let [rdram, dmem, imem, out, _] = &seen.bytes;
+    let mut guarded = [rdram, dmem, imem, out].map(|bytes| Guarded::new(bytes, shift));
+    call_library(case, &mut seen, guarded.each_mut().map(Guarded::lent));
+    for (bytes, guarded) in seen.bytes.iter_mut().zip(&mut guarded) {
+        bytes.copy_from_slice(guarded.lent());
+        seen.outside |= !guarded.is_whole();
+    }
+    seen
+}
+
+/// The call itself, over RDRAM, DMEM, IMEM and the output.
+fn call_library(case: &Case, seen: &mut Seen, lent: [&mut [u8]; 4]) {
+    let [rdram, dmem, imem, out] = lent;
+    let s = case.state;
+    match &case.call {
+        Call::PowerUp => seen.outcome.state = ofersky::power_up(),
+        Call::IsSound => seen.sound = ofersky::is_sound(s),
+        Call::Read { address } => seen.outcome = ofersky::read_register(s, *address),
+        Call::Write { address, value } => {
+            seen.outcome = ofersky::write_register(s, *address, *value)
+        }
+        Call::Tick { n } => seen.outcome = ofersky::tick(s, *n),
+        Call::Break => seen.outcome = ofersky::sp_break(s),
+        Call::Acknowledge => seen.outcome = ofersky::acknowledge(s),
+        Call::SpTurn => seen.outcome = ofersky::sp_turn(s, rdram, dmem, imem),
+        Call::SpRun { budget } => seen.outcome = ofersky::sp_run(s, *budget, rdram, dmem, imem),
+        Call::DpTurn => seen.outcome = ofersky::dp_turn(s, rdram, dmem),
+        Call::DpRun { budget, .. } => seen.outcome = ofersky::dp_run(s, *budget, rdram, dmem, out),
+        Call::Look => {
+            seen.part = ofersky::look_ahead(s, rdram, dmem);
+            // A part that doesn't fit is told by its numbers; taking it would only panic.
+            if part_of(&seen.part, rdram, dmem).is_some() {
+                seen.bytes[4] = ofersky::next_word(s, rdram, dmem).to_vec();
+            }
+        }
+        Call::ReadRecord { recording, place } => {
+            seen.reading = ofersky::read_record(recording, *place)
+        }
+        Call::Replay { recording, .. } => {
+            let replayed = ofersky::replay(s, recording, rdram, dmem, imem, out);
+            (seen.outcome, seen.written) = (replayed.outcome, replayed.written);
+        }
+    }
+}
+
+/// The model's side.
+pub fn model(case: &Case) -> Seen {
+    let mut seen = Seen::lent(case);
+    let [rdram, dmem, imem, out, word] = &mut seen.bytes;
+    let s = &to_model(&case.state);
+    match &case.call {
+        Call::PowerUp => seen.outcome.state = from_model(&calls::power_up()),
+        Call::IsSound => seen.sound = calls::is_sound(s),
+        Call::Read { address } => seen.outcome = given(calls::read_register(s, *address)),
+        Call::Write { address, value } => {
+            seen.outcome = given(calls::write_register(s, *address, *value))
+        }
+        Call::Tick { n } => seen.outcome = given(calls::tick(s, *n)),
+        Call::Break => seen.outcome = given(calls::sp_break(s)),
+        Call::Acknowledge => seen.outcome = given(calls::acknowledge(s)),
+        Call::SpTurn => seen.outcome = given(calls::sp_turn(s, rdram, dmem, imem)),
+        Call::SpRun { budget } => {
+            seen.outcome = given(calls::sp_run(s, *budget, rdram, dmem, imem))
+        }
+        Call::DpTurn => seen.outcome = given(calls::dp_turn(s, rdram, dmem)),
+        Call::DpRun { budget, .. } => {
+            seen.outcome = given(calls::dp_run(s, *budget, rdram, dmem, out))
+        }
+        Call::Look => (seen.part, *word) = looked(s, rdram, dmem),
+        Call::ReadRecord { recording, place } => {
+            seen.reading = reading(calls::read_record(recording, *place))
+        }
+        Call::Replay { recording, .. } => {
+            let replayed = calls::replay(s, recording, rdram, dmem, imem, out);
+            (seen.outcome, seen.written) = (given(replayed.outcome), replayed.written);
+        }
+    }
+    seen
+}
+
+fn given(outcome: calls::Outcome) -> Outcome {
+    let calls::Answer {
+        number,
+        value,
+        count,
+    } = outcome.answer;
+    Outcome {
+        state: from_model(&outcome.state),
+        answer: Answer {
+            number,
+            value,
+            count,
+        },
+    }
+}
+
+/// The model's part, and the bytes there.
+fn looked(state: &calls::State, rdram: &[u8], dmem: &[u8]) -> (Part, Vec<u8>) {
+    let calls::Part {
+        memory,
+        offset,
+        length,
+    } = calls::look_ahead(state, rdram, dmem);
+    let part = Part {
+        memory,
+        offset,
+        length,
+    };
+    let word = part_of(&part, rdram, dmem).unwrap_or(&[]).to_vec();
+    (part, word)
+}
+
+/// The bytes of a part, if they are there.
+fn part_of<'a>(part: &Part, rdram: &'a [u8], dmem: &'a [u8]) -> Option<&'a [u8]> {
+    let memory = if part.memory == 0 { rdram } else { dmem };
+    let from = part.offset as usize;
+    memory.get(from..from + part.length as usize)
+}
+
+fn reading(found: calls::Reading) -> Reading {
+    Reading {
+        item: Record {
+            value: found.value,
+            address: found.address,
+            kind: found.kind,
+        },
+        place: found.place,
+        number: found.number,
+    }
+}
+
+/// The state after a call on the model's side, for a walk from call to call.
+pub fn next_state(case: &Case, seen: &Seen) -> State {
+    match case.call {
+        Call::PowerUp | Call::IsSound | Call::Look | Call::ReadRecord { .. } => case.state,
+        _ => seen.outcome.state,
+    }
+}

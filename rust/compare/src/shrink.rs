@@ -1,0 +1,203 @@
+//! Makes a case that shows a difference as small as it can: fewer records, and numbers nearer to zero.
+
+use crate::call::{Call, Case};
+use crate::fields::FIELDS;
+use crate::memory::BANK;
+use crate::records::{numbers, pieces};
+use std::ops::Range;
+use std::time::{Duration, Instant};
+
+/// How long it may take: shrinking must end also where each answer of the sides is slow.
+const SECONDS: u64 = 5;
+
+/// A number of a case that can be lowered.
+#[derive(Clone, Debug)]
+enum Number {
+    Field(usize),
+    Rdram,
+    Dmem,
+    Imem,
+    Fill,
+    Argument(usize),
+    Bytes(Range<usize>),
+}
+
+/// The length of the output.
+const OUT: Number = Number::Argument(1);
+
+/// The smallest case found that still differs.
+pub fn shrink(case: &Case, differs: &dyn Fn(&Case) -> bool) -> Case {
+    let mut best = case.clone();
+    let end = Instant::now() + Duration::from_secs(SECONDS);
+    let mut keep = |best: &mut Case, candidate: Case| {
+        let better = Instant::now() < end && candidate != *best && differs(&candidate);
+        if better {
+            *best = candidate;
+        }
+        better
+    };
+    loop {
+        let before = best.clone();
+        // Small memories first: every later try is faster with them.
+        lower_numbers(&mut best, sizes(), &mut keep);
+        fewer_records(&mut best, &mut keep);
+        let numbers = all_numbers(&best);
+        lower_numbers(&mut best, numbers, &mut keep);
+        if best == before {
+            return best;
+        }
+    }
+}
+
+type Keep<'a> = dyn FnMut(&mut Case, Case) -> bool + 'a;
+
+/// Leaves records out, many at once and then one by one, from the end on: what a difference needs is mostly before it.
+fn fewer_records(best: &mut Case, keep: &mut Keep) {
+    let mut size = pieces(recording(best)).len();
+    while size > 0 {
+        let mut end = pieces(recording(best)).len();
+        while end > 0 {
+            let from = end.saturating_sub(size);
+            let candidate = without(best, from..end);
+            keep(best, candidate);
+            end = from;
+        }
+        size /= 2;
+    }
+}
+
+fn recording(case: &Case) -> &[u8] {
+    match &case.call {
+        Call::Replay { recording, .. } | Call::ReadRecord { recording, .. } => recording,
+        _ => &[],
+    }
+}
+
+fn recording_mut(case: &mut Case) -> Option<&mut Vec<u8>> {
+    match &mut case.call {
+        Call::Replay { recording, .. } | Call::ReadRecord { recording, .. } => Some(recording),
+        _ => None,
+    }
+}
+
+/// The case without these records.
+fn without(case: &Case, records: Range<usize>) -> Case {
+    let pieces = pieces(recording(case));
+    let bytes = pieces[records.start].start..pieces[records.end - 1].end;
+    let mut candidate = case.clone();
+    if let Some(recording) = recording_mut(&mut candidate) {
+        recording.drain(bytes);
+    }
+    candidate
+}
+
+/// Lowers each number as far as the difference stays.
+fn lower_numbers(best: &mut Case, numbers: Vec<Number>, keep: &mut Keep) {
+    for number in numbers {
+        loop {
+            let value = get(best, &number);
+            let lowered = lower(&number, value).into_iter().any(|value| {
+                let mut candidate = best.clone();
+                set(&mut candidate, &number, value);
+                keep(best, candidate)
+            });
+            if !lowered {
+                break;
+            }
+        }
+    }
+}
+
+/// The numbers that the time of a call hangs on.
+fn sizes() -> Vec<Number> {
+    vec![Number::Rdram, Number::Fill, OUT]
+}
+
+fn all_numbers(case: &Case) -> Vec<Number> {
+    let mut all: Vec<Number> = (0..FIELDS.len()).map(Number::Field).collect();
+    all.extend([Number::Dmem, Number::Imem, Number::Argument(0), OUT]);
+    all.extend(numbers(recording(case)).into_iter().map(Number::Bytes));
+    all
+}
+
+/// Values to try instead, the simplest first. The banks only become good, because a bad length is no simpler than another.
+fn lower(number: &Number, value: u64) -> Vec<u64> {
+    let bank = BANK as u64;
+    match number {
+        Number::Dmem | Number::Imem if value == bank => Vec::new(),
+        Number::Dmem | Number::Imem => vec![bank],
+        Number::Rdram => [0, 8, 4_096, 32_768]
+            .into_iter()
+            .filter(|length| *length < value)
+            .collect(),
+        _ if value == 0 => Vec::new(),
+        _ => smaller(value),
+    }
+}
+
+/// Less of a number: bits taken away, then a half of it, a quarter and so on, also as multiples of 8.
+fn smaller(value: u64) -> Vec<u64> {
+    let highest = 1 << value.ilog2();
+    let mut values = vec![0, value ^ highest, value & (value - 1)];
+    for part in 1..=value.ilog2() {
+        let less = value - (value >> part);
+        values.extend([less, less & !7]);
+    }
+    values.retain(|less| *less < value);
+    values
+}
+
+fn get(case: &Case, number: &Number) -> u64 {
+    match number {
+        Number::Field(i) => (FIELDS[*i].get)(&case.state),
+        Number::Rdram => case.lent.rdram as u64,
+        Number::Dmem => case.lent.dmem as u64,
+        Number::Imem => case.lent.imem as u64,
+        Number::Fill => case.lent.fill,
+        Number::Argument(i) => argument(&case.call, *i),
+        Number::Bytes(range) => recording(case)[range.clone()]
+            .iter()
+            .fold(0, |sum, byte| sum << 8 | u64::from(*byte)),
+    }
+}
+
+fn set(case: &mut Case, number: &Number, value: u64) {
+    match number {
+        Number::Field(i) => (FIELDS[*i].set)(&mut case.state, value),
+        Number::Rdram => case.lent.rdram = value as usize,
+        Number::Dmem => case.lent.dmem = value as usize,
+        Number::Imem => case.lent.imem = value as usize,
+        Number::Fill => case.lent.fill = value,
+        Number::Argument(i) => set_argument(&mut case.call, *i, value),
+        Number::Bytes(range) => {
+            let bytes = value.to_be_bytes();
+            let bytes = &bytes[8 - range.len()..];
+            if let Some(recording) = recording_mut(case) {
+                recording[range.clone()].copy_from_slice(bytes);
+            }
+        }
+    }
+}
+
+/// A number among the arguments of a call. Register addresses are not lowered: a register is not simpler than another.
+fn argument(call: &Call, i: usize) -> u64 {
+    match (call, i) {
+        (Call::Write { value, .. }, 0) => u64::from(*value),
+        (Call::Tick { n }, 0) => u64::from(*n),
+        (Call::SpRun { budget } | Call::DpRun { budget, .. }, 0) => u64::from(*budget),
+        (Call::ReadRecord { place, .. }, 0) => *place as u64,
+        (Call::DpRun { out, .. } | Call::Replay { out, .. }, 1) => *out as u64,
+        _ => 0,
+    }
+}
+
+fn set_argument(call: &mut Call, i: usize, to: u64) {
+    match (call, i) {
+        (Call::Write { value, .. }, 0) => *value = to as u32,
+        (Call::Tick { n }, 0) => *n = to as u32,
+        (Call::SpRun { budget } | Call::DpRun { budget, .. }, 0) => *budget = to as u32,
+        (Call::ReadRecord { place, .. }, 0) => *place = to as usize,
+        (Call::DpRun { out, .. } | Call::Replay { out, .. }, 1) => *out = to as usize,
+        _ => {}
+    }
+}

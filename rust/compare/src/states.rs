@@ -1,0 +1,206 @@
+//! States made field by field: sound ones near the edges of each rule, and unsound ones.
+
+use crate::fields::{field, FLAGS};
+use crate::random::Random;
+use crate::values::{count, length, length_word, ram_address, register_value, sp_address};
+use ofersky::{DpState, SpState, State};
+
+/// A sound state; RDRAM has this length.
+pub fn sound(random: &mut Random, rdram: usize) -> State {
+    State {
+        sp: sound_sp(random, rdram),
+        dp: sound_dp(random, rdram),
+    }
+}
+
+fn sound_sp(random: &mut Random, rdram: usize) -> SpState {
+    let busy = random.flag();
+    let row = length(random);
+    let len = match random.below(4) {
+        0 => 0,
+        1 => row,
+        2 if busy == 0 => length(random),
+        _ => (random.below(u64::from(row) + 8) as u32) & 0xFF8,
+    };
+    SpState {
+        splatch: sp_address(random),
+        ramlatch: ram_address(random, rdram),
+        spaddr: sp_address(random),
+        ramaddr: ram_address(random, rdram),
+        len,
+        count: count(random),
+        skip: length(random),
+        row,
+        waiting: if random.once_in(4) {
+            register_value(random)
+        } else {
+            length_word(random)
+        },
+        busy,
+        storing: random.flag(),
+        full: busy & random.flag(),
+        waitstoring: random.flag(),
+        halted: random.flag(),
+        broke: random.flag(),
+        sstep: random.flag(),
+        intbreak: random.flag(),
+        signals: random.byte(),
+        line: random.flag(),
+        semaphore: random.flag(),
+    }
+}
+
+/// The end of a list: near its start, below it or anywhere.
+fn list_end(random: &mut Random, start: u32, rdram: usize) -> u32 {
+    let near = random.below(32) as u32 * 8;
+    match random.below(8) {
+        0 => start,
+        1 => start.saturating_sub(near),
+        2 => ram_address(random, rdram),
+        3 => start.saturating_add(8).min(0xFF_FFF8),
+        _ => start.saturating_add(near).min(0xFF_FFF8),
+    }
+}
+
+fn counter(random: &mut Random) -> u32 {
+    match random.below(4) {
+        0 => random.pick(&[0, 1, 0xFF_FFFF, 0xFF_FFFE]),
+        1 => 0xFF_FF00 | random.word() & 0xFF,
+        _ => random.word() & 0xFF_FFFF,
+    }
+}
+
+fn sound_dp(random: &mut Random, rdram: usize) -> DpState {
+    let start = ram_address(random, rdram);
+    let current = ram_address(random, rdram);
+    let mut dp = DpState {
+        start,
+        end: list_end(random, start, rdram),
+        current,
+        limit: list_end(random, current, rdram),
+        clock: counter(random),
+        cmdcount: counter(random),
+        pipecount: counter(random),
+        tmemcount: counter(random),
+        startpending: random.flag(),
+        endpending: random.flag(),
+        xbus: random.flag(),
+        freeze: random.flag() & random.flag(),
+        flush: random.flag() & random.flag(),
+        pipebusy: random.flag(),
+        wordsleft: match random.below(4) {
+            0 => random.pick(&[1, 2, 20, 21]),
+            1 => random.below(22) as u8,
+            _ => 0,
+        },
+        line: random.flag(),
+    };
+    settle(&mut dp);
+    dp
+}
+
+/// Changes what the clauses about flags do not allow together.
+fn settle(dp: &mut DpState) {
+    if dp.flush == 1 {
+        dp.limit = dp.limit.min(dp.current);
+    }
+    let runs = dp.current < dp.limit;
+    if dp.freeze == 0 && !runs {
+        dp.endpending = 0;
+    }
+    dp.startpending |= dp.endpending;
+}
+
+/// The ways to break a state, one clause each. A number field is broken above its width or below its multiple of 8.
+pub const BREAKS: &[&str] = &[
+    "sp.splatch",
+    "sp.ramlatch",
+    "sp.spaddr",
+    "sp.ramaddr",
+    "sp.len",
+    "sp.count",
+    "sp.skip",
+    "sp.row",
+    "dp.start",
+    "dp.end",
+    "dp.current",
+    "dp.limit",
+    "dp.clock",
+    "dp.cmdcount",
+    "dp.pipecount",
+    "dp.tmemcount",
+    "dp.wordsleft",
+    "flag",
+    "FULL without BUSY",
+    "LEN above ROW",
+    "END_PENDING alone",
+    "END_PENDING with nothing running",
+    "FLUSH with a list running",
+];
+
+/// Breaks one clause of a sound state.
+pub fn break_clause(random: &mut Random, state: &mut State, clause: &str) {
+    let (sp, dp) = (&mut state.sp, &mut state.dp);
+    match clause {
+        "FULL without BUSY" => (sp.full, sp.busy) = (1, 0),
+        "LEN above ROW" => {
+            sp.busy = 1;
+            sp.row &= 0x7F8;
+            sp.len = sp.row + 8 + (random.word() & 0x7F8);
+        }
+        "END_PENDING alone" => {
+            (dp.endpending, dp.startpending, dp.freeze) = (1, 0, 1);
+        }
+        "END_PENDING with nothing running" => {
+            (dp.endpending, dp.startpending, dp.freeze) = (1, 1, 0);
+            dp.limit = dp.limit.min(dp.current);
+        }
+        "FLUSH with a list running" => {
+            dp.flush = 1;
+            dp.current &= 0x7F_FFF8;
+            dp.limit = dp.current + 8 + (random.word() & 0x7F_FFF8);
+        }
+        "flag" => {
+            let name = random.pick(&FLAGS);
+            (field(name).set)(state, 2 + random.below(254));
+        }
+        name => break_number(random, state, name),
+    }
+}
+
+/// Puts a number into a field that does not fit it. Only the edges are picked where they say the most.
+fn break_number(random: &mut Random, state: &mut State, name: &str) {
+    let field = field(name);
+    let (span, eights) = match name {
+        "sp.splatch" | "sp.spaddr" => (0x2000, true),
+        "sp.len" | "sp.skip" | "sp.row" => (0x1000, true),
+        "sp.count" => (0x100, false),
+        "dp.wordsleft" => (22, false),
+        "dp.clock" | "dp.cmdcount" | "dp.pipecount" | "dp.tmemcount" => (1 << 24, false),
+        _ => (1 << 24, true),
+    };
+    let most = if name == "dp.wordsleft" {
+        0xFF
+    } else {
+        u32::MAX
+    };
+    let value = (field.get)(state);
+    let bad = match random.below(4) {
+        0 if eights => value | (1 + random.below(7)),
+        1 => u64::from(span),
+        2 => u64::from(most),
+        _ => u64::from(span) + random.below(u64::from(most - span)),
+    };
+    (field.set)(state, bad);
+}
+
+/// Breaks one clause or several of a sound state.
+pub fn unsound(random: &mut Random, rdram: usize) -> State {
+    let mut state = sound(random, rdram);
+    let breaks = random.pick(&[1, 1, 1, 2, 3]);
+    for _ in 0..breaks {
+        let clause = random.pick(BREAKS);
+        break_clause(random, &mut state, clause);
+    }
+    state
+}

@@ -1,0 +1,238 @@
+//! Goes through a recording on the model turn by turn, and counts what happens in it.
+
+use crate::events::{Event, Events};
+use crate::memory::BANK;
+use model::calls::{self, State};
+use model::machine::*;
+use model::recording::Record;
+
+/// The bytes of output of a replay's DP run.
+const OUTPUT_WORDS: u32 = 256;
+
+/// A state and memories of the model, and what was seen of them.
+pub struct Watch {
+    pub state: State,
+    pub rdram: Vec<u8>,
+    pub dmem: Vec<u8>,
+    pub imem: Vec<u8>,
+    pub events: Events,
+}
+
+impl Watch {
+    /// From a sound state and memories of good lengths.
+    pub fn new(state: State, [rdram, dmem, imem]: [Vec<u8>; 3]) -> Watch {
+        Watch {
+            state,
+            rdram,
+            dmem,
+            imem,
+            events: Events::default(),
+        }
+    }
+
+    /// Does one record as a replay does. Its address must be a good one.
+    pub fn record(&mut self, record: Record) {
+        match record {
+            Record::Write { address, value } => self.write(address, value),
+            Record::Read { address, expected } => self.read(address, expected),
+            Record::SpRun { budget } => self.sp_run(budget),
+            Record::DpRun { budget } => self.dp_run(budget),
+            Record::Tick { n } => self.tick(n),
+            Record::Break => {
+                self.events
+                    .see_if(self.state.sp.intbreak == 1, Event::BreakLine);
+                self.state = calls::sp_break(&self.state).state;
+            }
+            Record::Acknowledge => {
+                self.events
+                    .see_if(self.state.dp.line == 1, Event::Acknowledged);
+                self.state = calls::acknowledge(&self.state).state;
+            }
+            Record::Store { address, word } => {
+                if let Some(bytes) = self.memory(address) {
+                    bytes.copy_from_slice(&word.to_be_bytes());
+                }
+            }
+            Record::Check { address, expected } => {
+                let ok = self.word(address) == expected;
+                self.events.see_if(ok, Event::CheckOk);
+                self.events.see_if(!ok, Event::CheckDiffers);
+            }
+        }
+    }
+
+    /// The eight bytes that kinds 8 and 9 mean by an address, none past the lent length.
+    fn memory(&mut self, address: u32) -> Option<&mut [u8]> {
+        let place = address as usize;
+        let found = match place {
+            0..0x0400_0000 => self.rdram.get_mut(place..place + 8),
+            0x0400_0000..0x0400_1000 => self.dmem.get_mut(place % BANK..place % BANK + 8),
+            _ => self.imem.get_mut(place % BANK..place % BANK + 8),
+        };
+        self.events.see_if(found.is_none(), Event::MemoryPastLength);
+        found
+    }
+
+    /// The word there.
+    pub fn word(&mut self, address: u32) -> u64 {
+        let bytes = self.memory(address).map(|bytes| bytes.try_into());
+        bytes.map_or(0, |bytes| u64::from_be_bytes(bytes.expect("eight bytes")))
+    }
+
+    fn read(&mut self, address: u32, expected: u32) {
+        let outcome = calls::read_register(&self.state, address);
+        let ok = outcome.answer.value == u64::from(expected);
+        self.events.see_if(ok, Event::ReadOk);
+        self.events.see_if(!ok, Event::ReadDiffers);
+        if address == SP_SEMAPHORE {
+            let taken = outcome.answer.value == 1;
+            self.events.see_if(!taken, Event::SemaphoreFree);
+            self.events.see_if(taken, Event::SemaphoreTaken);
+        }
+        self.state = outcome.state;
+    }
+
+    fn write(&mut self, address: u32, value: u32) {
+        let before = self.state;
+        self.state = calls::write_register(&self.state, address, value).state;
+        let (sp, full) = (&before.sp, before.sp.full == 1);
+        let events = &mut self.events;
+        match address {
+            SP_SPADDR | SP_RAMADDR => events.see_if(full, Event::LatchWhileFull),
+            SP_RDLEN | SP_WRLEN => {
+                events.see_if(sp.busy == 0, Event::TransferBegan);
+                events.see_if(sp.busy == 1, Event::TransferWaits);
+                events.see_if(full, Event::WaitingReplaced);
+            }
+            DP_START => events.see_if(before.dp.endpending == 1, Event::StartWhileWaiting),
+            DP_END => self.wrote_end(&before),
+            DP_STATUS => self.wrote_status(&before),
+            _ => {}
+        }
+    }
+
+    fn wrote_end(&mut self, before: &State) {
+        let (was, is) = (&before.dp, &self.state.dp);
+        let events = &mut self.events;
+        if was.startpending == 0 {
+            events.see(Event::EndMoved);
+            events.see_if(is.limit <= is.current, Event::EndNotAbove);
+        } else if is.endpending == 1 {
+            events.see(Event::ListWaits);
+        } else {
+            events.see(Event::ListBegan);
+            events.see_if(is.current >= is.limit, Event::EmptyList);
+            events.see_if(is.flush == 1, Event::ListUnderFlush);
+        }
+    }
+
+    fn wrote_status(&mut self, before: &State) {
+        let (was, is) = (&before.dp, &self.state.dp);
+        let ran = was.current < was.limit;
+        let flushed = is.flush == 1 && is.limit == is.current && is.startpending == 0;
+        let events = &mut self.events;
+        events.see_if(ran && is.flush == 1, Event::FlushRunning);
+        events.see_if(flushed && was.endpending == 1, Event::FlushWaiting);
+        events.see_if(
+            flushed && was.wordsleft > is.wordsleft,
+            Event::FlushMidCommand,
+        );
+        events.see_if(ran && was.freeze < is.freeze, Event::FrozenRunning);
+        events.see_if(ran && was.xbus != is.xbus, Event::XbusMidList);
+        let began = was.endpending == 1 && is.endpending == 0 && is.flush == 0;
+        events.see_if(began, Event::WaitingListByWrite);
+    }
+
+    fn tick(&mut self, n: u32) {
+        let before = self.state.dp;
+        self.state = calls::tick(&self.state, n).state;
+        let wrapped = self.state.dp.clock < before.clock;
+        self.events.see_if(wrapped, Event::ClockWrap);
+        let busy = before.wordsleft > 0 || before.pipebusy == 1;
+        self.events.see_if(busy, Event::BusyTick);
+    }
+
+    fn budget(&mut self, budget: u32) {
+        self.events.see_if(budget == 0, Event::ZeroBudget);
+        self.events.see_if(budget == u32::MAX, Event::HugeBudget);
+    }
+
+    fn sp_run(&mut self, budget: u32) {
+        self.budget(budget);
+        self.events.see_if(self.state.sp.busy == 0, Event::IdleRun);
+        let mut moved = 0;
+        while moved < budget && self.state.sp.busy == 1 && self.sp_turn() {
+            moved += 1;
+        }
+        let idle = self.state.sp.busy == 0;
+        self.events.see_if(idle && moved > 0, Event::IdleStop);
+        self.events.see_if(!idle, Event::BudgetStop);
+    }
+
+    /// One SP turn with a word to move; whether it moved it.
+    fn sp_turn(&mut self) -> bool {
+        let sp = self.state.sp;
+        let past = sp.ramaddr as usize >= self.rdram.len();
+        let events = &mut self.events;
+        events.see_if(sp.storing == 0, Event::Loaded);
+        events.see_if(sp.storing == 1, Event::Stored);
+        events.see_if(sp.storing == 0 && past, Event::LoadedZeros);
+        events.see_if(sp.storing == 1 && past, Event::DroppedStore);
+        events.see_if(sp.spaddr & 0xFF8 == 0xFF8, Event::BankEnd);
+        events.see_if(sp.ramaddr == 0xFF_FFF8, Event::WordWrap);
+        let row = sp.len == 0 && sp.count > 0;
+        let skipped = (sp.ramaddr + 8) % (1 << 24) + sp.skip;
+        events.see_if(row, Event::RowEnd);
+        events.see_if(row && sp.skip > 0, Event::RowSkipped);
+        events.see_if(row && skipped >= 1 << 24, Event::SkipWrap);
+        let end = sp.len == 0 && sp.count == 0;
+        events.see_if(end, Event::TransferEnd);
+        events.see_if(end && sp.full == 1, Event::WaitingBegan);
+        let [rdram, dmem, imem] = [&mut self.rdram, &mut self.dmem, &mut self.imem];
+        let outcome = calls::sp_turn(&self.state, rdram, dmem, imem);
+        self.state = outcome.state;
+        outcome.answer.count == 1
+    }
+
+    fn dp_run(&mut self, budget: u32) {
+        self.budget(budget);
+        let mut handed = 0;
+        while handed < budget && handed < OUTPUT_WORDS && self.dp_turn() {
+            handed += 1;
+        }
+        let dp = &self.state.dp;
+        let more = dp.current < dp.limit;
+        let frozen = more && dp.freeze == 1;
+        let full = handed == OUTPUT_WORDS && budget > OUTPUT_WORDS && more && !frozen;
+        self.events.see_if(frozen, Event::FrozenStop);
+        self.events.see_if(full, Event::OutputStop);
+    }
+
+    /// One DP turn; whether it handed out a word.
+    fn dp_turn(&mut self) -> bool {
+        let before = self.state.dp;
+        let outcome = calls::dp_turn(&self.state, &self.rdram, &self.dmem);
+        self.state = outcome.state;
+        if outcome.answer.count == 0 {
+            return false;
+        }
+        let first = (outcome.answer.value >> 56) as u8;
+        let dmem = before.xbus == 1;
+        let past = !dmem && before.current as usize >= self.rdram.len();
+        let events = &mut self.events;
+        events.see(Event::Handed);
+        events.see_if(dmem, Event::HandedFromDmem);
+        events.see_if(past, Event::HandedZeros);
+        events.see_if(dmem && before.current & 0xFF8 == 0xFF8, Event::DmemEnd);
+        let sync = first % 64 == 0x29;
+        if before.wordsleft == 0 {
+            events.first_bytes[first as usize] += 1;
+            events.see_if(sync, Event::SyncFull);
+        } else {
+            events.see_if(sync, Event::SyncFullLook);
+        }
+        let began = before.endpending == 1 && self.state.dp.endpending == 0;
+        events.see_if(began, Event::WaitingListByTurn);
+        true
+    }
+}

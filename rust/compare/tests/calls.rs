@@ -1,0 +1,350 @@
+//! Single calls, made of the library and of the model.
+
+use compare::call::{Call, Case};
+use compare::cases::{any_case, call_of, good_lengths, odd_lengths, ON_A_STATE};
+use compare::comparison::Comparison;
+use compare::damage::{bad_address, bad_kind, exactly, flipped, LONGEST};
+use compare::fields::{field, to_model, FIELDS, FLAGS};
+use compare::memory::{Lent, LONGEST_RDRAM};
+use compare::random::Random;
+use compare::seen::next_state;
+use compare::states::{break_clause, sound, unsound, BREAKS};
+use compare::totals::{Sum, Totals};
+use compare::traffic::Traffic;
+use compare::values::{not_register, register_value, value_for};
+use compare::watch::Watch;
+use model::machine::{DP_STATUS, REGISTERS, SP_STATUS};
+use ofersky::State;
+
+/// What the eight tests compared.
+static ALL: Sum = Sum::of_tests(8);
+
+/// Prints the line of a test, and after the last one that of all.
+fn done(test: &str, totals: &Totals) {
+    println!("{test}: {}", totals.calls_line());
+    if let Some(all) = ALL.add(totals) {
+        println!("all single calls: {}", all.calls_line());
+        assert!(all.compared >= 200_000);
+    }
+}
+
+/// A call that takes no memory.
+fn plain(state: State, call: Call) -> Case {
+    let lent = Lent::new(0, 0);
+    Case { state, lent, call }
+}
+
+fn read_and_write(comparison: &mut Comparison, state: State, address: u32, value: u32) {
+    comparison.check(&plain(state, Call::Read { address }));
+    comparison.check(&plain(state, Call::Write { address, value }));
+}
+
+#[test]
+fn registers() {
+    let mut random = Random::of_test(21);
+    let mut comparison = Comparison::new("call");
+    comparison.check(&plain(State::default(), Call::PowerUp));
+    for _ in 0..1_500 {
+        let rdram = random.pick(&[0, 4_096, 32_768]);
+        let state = sound(&mut random, rdram);
+        for address in REGISTERS {
+            comparison.check(&plain(state, Call::Read { address }));
+            for _ in 0..3 {
+                let value = value_for(&mut random, address, rdram);
+                comparison.check(&plain(state, Call::Write { address, value }));
+            }
+        }
+    }
+    comparison
+        .totals
+        .expect_numbers("read_register", &[0], 20_000);
+    comparison
+        .totals
+        .expect_numbers("write_register", &[0], 60_000);
+    done("registers", &comparison.totals);
+}
+
+/// No bit, each bit, each two bits, and all bits.
+fn bit_patterns() -> Vec<u32> {
+    let mut patterns = vec![0, u32::MAX];
+    for i in 0..32 {
+        patterns.extend((0..=i).map(|j| 1 << i | 1 << j));
+    }
+    patterns
+}
+
+#[test]
+fn status_bits() {
+    let mut random = Random::of_test(22);
+    let mut comparison = Comparison::new("call");
+    for _ in 0..30 {
+        let state = sound(&mut random, 4_096);
+        for value in bit_patterns() {
+            for address in [SP_STATUS, DP_STATUS] {
+                comparison.check(&plain(state, Call::Write { address, value }));
+            }
+        }
+    }
+    done("status bits", &comparison.totals);
+}
+
+#[test]
+fn addresses_beside_the_registers() {
+    let mut random = Random::of_test(23);
+    let mut comparison = Comparison::new("call");
+    let near = |base: u32| base - 0x10..base + 0x50;
+    for address in near(0x0404_0000).chain(near(0x0410_0000)) {
+        for _ in 0..20 {
+            let state = sound(&mut random, 4_096);
+            let value = register_value(&mut random);
+            read_and_write(&mut comparison, state, address, value);
+        }
+    }
+    for _ in 0..4_000 {
+        let state = if random.once_in(4) {
+            unsound(&mut random, 4_096)
+        } else {
+            sound(&mut random, 4_096)
+        };
+        let address = not_register(&mut random);
+        read_and_write(&mut comparison, state, address, 0x0F);
+    }
+    for call in ["read_register", "write_register"] {
+        comparison.totals.expect_numbers(call, &[0, 4, 5], 300);
+    }
+    done("addresses beside the registers", &comparison.totals);
+}
+
+#[test]
+fn turns_runs_and_looks() {
+    let mut random = Random::of_test(24);
+    let mut comparison = Comparison::new("call");
+    let [mut moved, mut handed, mut found] = [0; 3];
+    let mut framed = [0; 64];
+    for _ in 0..14_000 {
+        let lent = good_lengths(&mut random);
+        let state = sound(&mut random, lent.rdram);
+        for kind in 3..ON_A_STATE {
+            let call = call_of(&mut random, kind, &state, lent.rdram);
+            let case = Case { state, lent, call };
+            let seen = comparison.check(&case);
+            match case.call {
+                Call::SpTurn => moved += seen.outcome.answer.count,
+                Call::DpTurn if seen.outcome.answer.count == 1 => {
+                    handed += 1;
+                    let opcode = (seen.outcome.answer.value >> 56) as usize % 64;
+                    framed[opcode] += u32::from(state.dp.wordsleft == 0);
+                }
+                Call::Look => found += seen.part.length / 8,
+                _ => {}
+            }
+        }
+    }
+    assert!(framed.iter().all(|seen| *seen >= 3), "{framed:?}");
+    assert!(moved >= 3_000 && handed >= 3_000 && found >= 2_000);
+    println!("turns, runs and looks: {moved} SP turns moved a word, {handed} DP turns handed one out, {found} looks found one");
+    done("turns, runs and looks", &comparison.totals);
+}
+
+#[test]
+fn walks() {
+    let mut random = Random::of_test(25);
+    let mut comparison = Comparison::new("call");
+    for walk in 0..700 {
+        let lent = good_lengths(&mut random);
+        let mut state = match walk % 2 {
+            0 => ofersky::power_up(),
+            _ => sound(&mut random, lent.rdram),
+        };
+        for _ in 0..80 {
+            let case = any_case(&mut random, state, lent);
+            let seen = comparison.check(&case);
+            state = next_state(&case, &seen);
+        }
+        let sound = comparison.check(&plain(state, Call::IsSound)).sound;
+        assert!(
+            sound,
+            "a walk of calls on a sound state ends in a sound one"
+        );
+    }
+    done("walks", &comparison.totals);
+}
+
+#[test]
+fn unsound_states() {
+    let mut random = Random::of_test(26);
+    let mut comparison = Comparison::new("call");
+    for clause in BREAKS {
+        for round in 0..100 * ON_A_STATE {
+            let mut state = sound(&mut random, 4_096);
+            break_clause(&mut random, &mut state, clause);
+            expect_unsound(&mut comparison, state, clause);
+            let lent = Lent::new(4_096, 1);
+            let call = call_of(&mut random, round % ON_A_STATE, &state, lent.rdram);
+            comparison.check(&Case { state, lent, call });
+        }
+    }
+    every_flag_byte(&mut comparison, &mut random);
+    for call in [
+        "read_register",
+        "tick",
+        "sp_break",
+        "acknowledge",
+        "sp_turn",
+        "sp_run",
+    ] {
+        comparison.totals.expect_numbers(call, &[4], 1_000);
+    }
+    for call in ["write_register", "dp_turn", "dp_run"] {
+        comparison.totals.expect_numbers(call, &[4], 1_000);
+    }
+    done("unsound states", &comparison.totals);
+}
+
+fn expect_unsound(comparison: &mut Comparison, state: State, clause: &str) {
+    let seen = comparison.check(&plain(state, Call::IsSound));
+    assert!(!seen.sound, "{clause} broken, and still sound");
+}
+
+/// Every byte that is no flag, in every flag.
+fn every_flag_byte(comparison: &mut Comparison, random: &mut Random) {
+    for name in FLAGS {
+        for byte in 2..256 {
+            let mut state = sound(random, 4_096);
+            (field(name).set)(&mut state, byte);
+            expect_unsound(comparison, state, name);
+            comparison.check(&any_case(random, state, Lent::new(64, 2)));
+        }
+    }
+}
+
+#[test]
+fn soundness_and_odd_lengths() {
+    let mut random = Random::of_test(27);
+    let mut comparison = Comparison::new("call");
+    for _ in 0..12_000 {
+        let lent = odd_lengths(&mut random);
+        let state = if random.once_in(2) {
+            unsound(&mut random, lent.rdram)
+        } else {
+            sound(&mut random, lent.rdram)
+        };
+        comparison.check(&plain(state, Call::IsSound));
+        let kind = 6 + random.place(5);
+        let call = call_of(&mut random, kind, &state, lent.rdram);
+        comparison.check(&Case { state, lent, call });
+    }
+    changed_fields(&mut comparison, &mut random);
+    huge_memory(&mut comparison, &mut random);
+    for call in ["sp_turn", "sp_run"] {
+        comparison
+            .totals
+            .expect_numbers(call, &[0, 1, 2, 3, 4], 200);
+    }
+    for call in ["dp_turn", "dp_run"] {
+        comparison.totals.expect_numbers(call, &[0, 1, 2, 4], 200);
+    }
+    done("soundness and odd lengths", &comparison.totals);
+}
+
+/// Sound states with one bit of one field changed: some stay sound.
+fn changed_fields(comparison: &mut Comparison, random: &mut Random) {
+    let mut still = 0;
+    for field in FIELDS {
+        for bit in 0..32 {
+            for _ in 0..4 {
+                let mut state = sound(random, 4_096);
+                let value = (field.get)(&state) ^ 1 << bit;
+                (field.set)(&mut state, value);
+                still += u32::from(comparison.check(&plain(state, Call::IsSound)).sound);
+            }
+        }
+    }
+    assert!(still > 100);
+}
+
+/// RDRAM of the longest length allowed, and of more. These are few, because each takes long.
+fn huge_memory(comparison: &mut Comparison, random: &mut Random) {
+    for length in [LONGEST_RDRAM, LONGEST_RDRAM + 1, LONGEST_RDRAM + 8] {
+        for kind in 6..ON_A_STATE {
+            let lent = Lent::new(length, 3);
+            let mut state = sound(random, length);
+            (state.sp.ramaddr, state.dp.freeze) = (0xFF_FFF8, 0);
+            if state.dp.endpending == 0 && state.dp.flush == 0 {
+                (state.dp.current, state.dp.limit) = (0xFF_FFE8, 0xFF_FFF8);
+            }
+            let call = call_of(random, kind, &state, lent.rdram);
+            comparison.check(&Case { state, lent, call });
+        }
+    }
+}
+
+/// A recording of a few scenes from power-up.
+fn recording(random: &mut Random) -> Vec<u8> {
+    let lent = Lent::new(4_096, 0);
+    let watch = Watch::new(to_model(&ofersky::power_up()), lent.bytes());
+    let mut traffic = Traffic::new(random, watch);
+    while traffic.bytes.len() < 60 {
+        traffic.scene();
+    }
+    traffic.bytes.truncate(300);
+    traffic.bytes
+}
+
+#[test]
+fn reading_records() {
+    let mut random = Random::of_test(28);
+    let mut comparison = Comparison::new("call");
+    for _ in 0..60 {
+        let good = recording(&mut random);
+        let mut recordings = vec![bad_kind(&mut random, &good), flipped(&mut random, &good)];
+        recordings.extend(bad_address(&mut random, &good, 4_096));
+        recordings.push(good);
+        for recording in recordings {
+            every_place(&mut comparison, &recording);
+        }
+    }
+    for length in [LONGEST, LONGEST + 1, 70_000] {
+        let recording = exactly(&recording(&mut random), length);
+        for place in [
+            0,
+            1,
+            9,
+            length / 2,
+            length - 13,
+            length - 1,
+            length,
+            usize::MAX,
+        ] {
+            let recording = recording.clone();
+            comparison.check(&plain(
+                State::default(),
+                Call::ReadRecord { recording, place },
+            ));
+        }
+    }
+    every_place(&mut comparison, &[]);
+    comparison
+        .totals
+        .expect_numbers("read_record", &[0, 5, 6, 7, 8], 200);
+    comparison.totals.expect_numbers("read_record", &[9], 16);
+    done("reading records", &comparison.totals);
+}
+
+/// Every place of a recording, some after it, and places whose sum with a length passes the largest number.
+fn every_place(comparison: &mut Comparison, recording: &[u8]) {
+    let huge = [
+        usize::MAX,
+        usize::MAX - 1,
+        usize::MAX - 12,
+        usize::MAX / 2,
+        1 << 32,
+    ];
+    for place in (0..recording.len() + 15).chain(huge) {
+        let recording = recording.to_vec();
+        comparison.check(&plain(
+            State::default(),
+            Call::ReadRecord { recording, place },
+        ));
+    }
+}

@@ -1,0 +1,404 @@
+//! Generated recordings, replayed by the library and by the model.
+
+use compare::call::{Call, Case};
+use compare::cases::odd_lengths;
+use compare::comparison::Comparison;
+use compare::damage::{bad_address, bad_kind, exactly, flipped, LONGEST};
+use compare::events::{Event, EVENTS};
+use compare::fields::{field, from_model, to_model, FLAGS};
+use compare::memory::{rdram_length, Lent, LONGEST_RDRAM};
+use compare::random::Random;
+use compare::records::pieces;
+use compare::seen::Seen;
+use compare::states::{break_clause, sound, unsound, BREAKS};
+use compare::totals::{Sum, Totals};
+use compare::traffic::Traffic;
+use compare::watch::Watch;
+use model::machine::{command_length, DP_END, DP_START, DP_STATUS, SP_RDLEN, SP_WRLEN};
+use model::recording::Record;
+use ofersky::{State, LISTING_BYTES};
+
+/// What the six tests compared.
+static ALL: Sum = Sum::of_tests(6);
+
+/// Prints the line of a test, and after the last one that of all.
+fn done(test: &str, totals: &Totals) {
+    println!("{test}: {}", totals.recordings_line());
+    if let Some(all) = ALL.add(totals) {
+        println!("all recordings: {}", all.recordings_line());
+        println!("events in their traffic: {}", all.events.line());
+        assert!(all.compared >= 20_000);
+    }
+}
+
+fn case(state: State, lent: Lent, recording: Vec<u8>, out: usize) -> Case {
+    Case {
+        state,
+        lent,
+        call: Call::Replay { recording, out },
+    }
+}
+
+/// Mostly room for every listing; else too little, cut in any line.
+fn room(random: &mut Random) -> usize {
+    match random.below(8) {
+        0 => random.pick(&[0, 1, 8, 9, 10, 15]),
+        1 => random.place(400),
+        _ => LISTING_BYTES,
+    }
+}
+
+/// The memories of a recording: often zeros, because stored bytes stand out there.
+fn lent(random: &mut Random) -> Lent {
+    let fill = random.below(1 << 16) * random.below(2);
+    Lent::new(rdram_length(random), fill)
+}
+
+/// The state is as at power-up.
+fn power_up(_: &mut Random, _: usize) -> State {
+    ofersky::power_up()
+}
+
+/// Makes traffic of so many scenes at most, from a state.
+fn make(random: &mut Random, state: &State, lent: &Lent, scenes: u64) -> (Vec<u8>, Watch) {
+    let scenes = 1 + random.below(scenes);
+    let watch = Watch::new(to_model(state), lent.bytes());
+    let mut traffic = Traffic::new(random, watch);
+    for _ in 0..scenes {
+        traffic.scene();
+    }
+    (traffic.bytes, traffic.watch)
+}
+
+/// The turn-by-turn way through the records must end where the replay ends: else its counts mean nothing.
+fn agrees(seen: &Seen, watch: &Watch) {
+    assert_eq!(seen.outcome.state, from_model(&watch.state));
+    let [rdram, dmem, imem, ..] = &seen.bytes;
+    assert!((rdram, dmem, imem) == (&watch.rdram, &watch.dmem, &watch.imem));
+}
+
+/// Compares traffic from states of one kind, and counts its events.
+fn compare_traffic(
+    seed: u64,
+    recordings: usize,
+    scenes: u64,
+    start: fn(&mut Random, usize) -> State,
+) -> Totals {
+    let mut random = Random::of_test(seed);
+    let mut comparison = Comparison::new("recording");
+    for _ in 0..recordings {
+        let lent = lent(&mut random);
+        let state = start(&mut random, lent.rdram);
+        let (recording, watch) = make(&mut random, &state, &lent, scenes);
+        let good = recording.len() <= LONGEST;
+        let out = room(&mut random);
+        let seen = comparison.check(&case(state, lent, recording, out));
+        if good {
+            agrees(&seen, &watch);
+            comparison.totals.events.add(&watch.events);
+        }
+    }
+    comparison.totals
+}
+
+/// Every event of the list, most of them often, and every first byte of a command.
+fn expect_traffic(totals: &Totals, least: u64) {
+    let events: Vec<Event> = EVENTS.iter().map(|(event, _)| *event).collect();
+    totals.expect_events(&events, least);
+    for (byte, seen) in totals.events.first_bytes.iter().enumerate() {
+        assert!(*seen >= least, "0x{byte:02X} was framed {seen} times");
+    }
+}
+
+#[test]
+fn traffic_from_power_up() {
+    let mut totals = compare_traffic(1, 18_000, 6, power_up);
+    totals.add(&compare_traffic(2, 100, 300, power_up));
+    expect_traffic(&totals, 20);
+    done("traffic from power-up", &totals);
+}
+
+#[test]
+fn traffic_from_any_state() {
+    let totals = compare_traffic(3, 14_000, 5, sound);
+    expect_traffic(&totals, 20);
+    done("traffic from sound states", &totals);
+}
+
+/// The records of one list: a command with this first byte, whose later words look like SYNC_FULL, then two short ones.
+fn command_list(random: &mut Random, first: u8, xbus: bool) -> Vec<Record> {
+    let start = random.pick(&[0, 8, 0x7F0, 0xF80]);
+    let base = if xbus { 0x0400_0000 } else { 0 };
+    let mut words = vec![first];
+    for _ in 1..command_length(first % 64) {
+        words.push(random.pick(&[0x29, 0x69, 0xA9, 0xE9]));
+    }
+    words.extend([0x27, random.pick(&[0x29, 0xE9, 0x24])]);
+    let mut records = vec![Record::Write {
+        address: DP_STATUS,
+        value: if xbus { 2 } else { 1 },
+    }];
+    for (i, byte) in words.iter().enumerate() {
+        let at = start + 8 * i as u32;
+        let address = base + if xbus { at % 0x1000 } else { at };
+        let word = u64::from(*byte) << 56 | random.number() >> 8;
+        records.push(Record::Store { address, word });
+    }
+    let end = start + 8 * words.len() as u32;
+    for (address, value) in [(DP_START, start), (DP_END, end)] {
+        records.push(Record::Write { address, value });
+    }
+    records
+}
+
+/// Runs through a list: word by word, in one, or cut at a random place, with the status read after each.
+fn list_runs(random: &mut Random, style: usize) -> Vec<Record> {
+    let part = random.below(24) as u32;
+    let budgets = match style {
+        0 => vec![1; 26],
+        1 => vec![u32::MAX],
+        2 => vec![part, 1, part],
+        _ => vec![0, 2, part, u32::MAX],
+    };
+    let mut records = Vec::new();
+    for budget in budgets {
+        records.push(Record::DpRun { budget });
+        records.push(Record::Read {
+            address: DP_STATUS,
+            expected: 0x80,
+        });
+        records.push(Record::Tick { n: budget });
+    }
+    records
+}
+
+#[test]
+fn drawing_commands() {
+    let mut random = Random::of_test(4);
+    let mut comparison = Comparison::new("recording");
+    for first in 0..=255 {
+        for (xbus, style) in (0..8).map(|i| (i % 2 == 1, i / 2)) {
+            let mut records = command_list(&mut random, first, xbus);
+            records.extend(list_runs(&mut random, style));
+            let lent = Lent::new(random.pick(&[4_096, 32_768, 0x7F8]), 0);
+            let state = ofersky::power_up();
+            let mut watch = Watch::new(to_model(&state), lent.bytes());
+            records.iter().for_each(|record| watch.record(*record));
+            let recording = records.iter().flat_map(Record::encode).collect();
+            let seen = comparison.check(&case(state, lent, recording, LISTING_BYTES));
+            agrees(&seen, &watch);
+            comparison.totals.events.add(&watch.events);
+        }
+    }
+    let totals = comparison.totals;
+    for (byte, seen) in totals.events.first_bytes.iter().enumerate() {
+        assert!(*seen >= 4, "0x{byte:02X} was framed {seen} times");
+    }
+    totals.expect_events(&[Event::SyncFull, Event::SyncFullLook], 1_000);
+    done("drawing commands", &totals);
+}
+
+/// Some recordings of a few records, which cuts and flips then damage.
+fn short(random: &mut Random, lent: &Lent) -> Vec<u8> {
+    let state = ofersky::power_up();
+    let (mut recording, _) = make(random, &state, lent, 2);
+    let end = pieces(&recording)
+        .iter()
+        .map(|piece| piece.end)
+        .take_while(|end| *end < 160)
+        .last();
+    recording.truncate(end.unwrap_or(0));
+    recording.extend([8, 4, 0, 0, 0, 1, 2, 3, 4, 5, 6, 7, 8]);
+    recording
+}
+
+#[test]
+fn damaged_recordings() {
+    let mut random = Random::of_test(5);
+    let mut comparison = Comparison::new("recording");
+    let state = ofersky::power_up();
+    for round in 0..220 {
+        let lent = Lent::new(random.pick(&[0, 8, 4_096]), round & 1);
+        let good = short(&mut random, &lent);
+        let mut damaged = vec![bad_kind(&mut random, &good)];
+        for _ in 0..4 {
+            damaged.extend(bad_address(&mut random, &good, lent.rdram));
+            damaged.push(flipped(&mut random, &good));
+            damaged.push(bad_kind(&mut random, &good));
+        }
+        if round % 11 == 0 {
+            // Every cut, also of a recording with a bad address: the cut is told first.
+            let bad = bad_address(&mut random, &good, lent.rdram);
+            for whole in [Some(good), bad].into_iter().flatten() {
+                damaged.extend((0..whole.len()).map(|cut| whole[..cut].to_vec()));
+            }
+        }
+        for recording in damaged {
+            let out = random.pick(&[LISTING_BYTES, 2_000, 20]);
+            comparison.check(&case(state, lent, recording, out));
+        }
+    }
+    every_kind(&mut comparison);
+    every_bad_address(&mut comparison);
+    comparison
+        .totals
+        .expect_numbers("replay", &[0, 5, 6, 7, 8], 200);
+    done("damaged recordings", &comparison.totals);
+}
+
+/// Each of the 256 kinds after one good record, with the bytes of the longest body and with none.
+fn every_kind(comparison: &mut Comparison) {
+    for kind in 0..=255 {
+        for body in [0, 4, 12, 30] {
+            let mut recording = vec![6, kind];
+            recording.extend(vec![0; body]);
+            let lent = Lent::new(8, 1);
+            comparison.check(&case(ofersky::power_up(), lent, recording, 200));
+        }
+    }
+}
+
+/// States with one clause broken, and every byte that is no flag in every flag; nothing else is wrong.
+fn every_unsound_state(comparison: &mut Comparison, random: &mut Random) {
+    let mut states = Vec::new();
+    for clause in BREAKS {
+        for _ in 0..20 {
+            let mut state = sound(random, 64);
+            break_clause(random, &mut state, clause);
+            states.push(state);
+        }
+    }
+    for name in FLAGS {
+        for byte in 2..256 {
+            let mut state = sound(random, 64);
+            (field(name).set)(&mut state, byte);
+            states.push(state);
+        }
+    }
+    for state in states {
+        let seen = comparison.check(&case(state, Lent::new(64, 2), vec![6], 40));
+        assert_eq!(seen.number(), 4);
+    }
+}
+
+#[test]
+fn lengths_states_and_listings() {
+    let mut random = Random::of_test(6);
+    let mut comparison = Comparison::new("recording");
+    for _ in 0..3_000 {
+        let lent = odd_lengths(&mut random);
+        let state = match random.below(3) {
+            0 => unsound(&mut random, lent.rdram),
+            1 => sound(&mut random, lent.rdram),
+            _ => ofersky::power_up(),
+        };
+        let mut recording = short(&mut random, &Lent::new(4_096, 0));
+        if random.once_in(10) {
+            let length = random.pick(&[LONGEST - 1, LONGEST, LONGEST + 1, 20_000, 65_536]);
+            recording = exactly(&recording, length);
+        }
+        let out = room(&mut random);
+        comparison.check(&case(state, lent, recording, out));
+    }
+    every_room(&mut comparison, &mut random);
+    every_unsound_state(&mut comparison, &mut random);
+    comparison
+        .totals
+        .expect_numbers("replay", &[1, 2, 3, 4, 9], 100);
+    done("lengths, states and listings", &comparison.totals);
+}
+
+/// The first and last address of each block, those beside them and their mirrors, in each kind that has an address.
+fn every_bad_address(comparison: &mut Comparison) {
+    let edges = [
+        0,
+        0x00FF_FFF8,
+        0x03EF_FFF8,
+        0x0400_0000,
+        0x0400_1000,
+        0x0400_1FF8,
+        0x0404_0000,
+        0x0404_001C,
+        0x0410_0000,
+        0x0410_001C,
+    ];
+    let steps = (-9..=9).chain([0x1000, 0x2000, -0x1000, 0x2000_0000, -0x6000_0000, i32::MIN]);
+    for edge in edges {
+        for address in steps.clone().map(|step| step.wrapping_add(edge)) {
+            for (kind, body) in [(1, 4), (2, 4), (8, 8), (9, 8)] {
+                let mut recording = vec![7, kind];
+                recording.extend(address.to_be_bytes());
+                recording.extend(vec![0xFF; body]);
+                recording.push(6);
+                let lent = Lent::new(4_096, 1);
+                comparison.check(&case(ofersky::power_up(), lent, recording, 200));
+            }
+        }
+    }
+}
+
+/// Every length of the buffer up to one byte more than a listing has, for some listings.
+fn every_room(comparison: &mut Comparison, random: &mut Random) {
+    let state = ofersky::power_up();
+    for _ in 0..4 {
+        let lent = Lent::new(8, 0);
+        let recording = short(random, &lent);
+        let whole = comparison.check(&case(state, lent, recording.clone(), LISTING_BYTES));
+        for out in 0..whole.written + 2 {
+            comparison.check(&case(state, lent, recording.clone(), out));
+        }
+    }
+}
+
+/// The transfer of 131,072 words, with another one of as many that waits, and one budget for both.
+fn giant(length: u32, first: u32, second: u32) -> Vec<u8> {
+    let writes = [first, second].map(|address| Record::Write {
+        address,
+        value: length,
+    });
+    let run = Record::SpRun { budget: u32::MAX };
+    let read = Record::Read {
+        address: first,
+        expected: 0,
+    };
+    let records = [writes[0], writes[1], run, read];
+    records.iter().flat_map(Record::encode).collect()
+}
+
+/// The recording with the longest listing: reads that differ, and as few checks as fill up its length.
+fn longest_listing() -> Vec<u8> {
+    let read = Record::Read {
+        address: SP_RDLEN,
+        expected: 1,
+    };
+    let check = Record::Check {
+        address: 0,
+        expected: 1,
+    };
+    let recording = [read.encode().repeat(1_816), check.encode().repeat(3)].concat();
+    assert_eq!(recording.len(), LONGEST);
+    recording
+}
+
+#[test]
+fn giants() {
+    let mut comparison = Comparison::new("recording");
+    let state = ofersky::power_up();
+    for (length, rdram) in [(u32::MAX, 32_768), (0x000F_FFF8, 0), (0xFF8F_FFF8, 1 << 21)] {
+        for (first, second) in [(SP_RDLEN, SP_WRLEN), (SP_WRLEN, SP_RDLEN)] {
+            let lent = Lent::new(rdram, 9);
+            comparison.check(&case(state, lent, giant(length, first, second), 4_000));
+        }
+    }
+    for rdram in [LONGEST_RDRAM, LONGEST_RDRAM + 1, LONGEST_RDRAM + 8] {
+        let lent = Lent::new(rdram, 5);
+        comparison.check(&case(state, lent, giant(0x0F, SP_RDLEN, SP_WRLEN), 4_000));
+    }
+    let lent = Lent::new(8, 0);
+    let whole = comparison.check(&case(state, lent, longest_listing(), LISTING_BYTES));
+    assert!(whole.written > 69_000 && whole.written < LISTING_BYTES);
+    for out in [whole.written - 1, whole.written, LISTING_BYTES + 1] {
+        comparison.check(&case(state, lent, longest_listing(), out));
+    }
+    done("giants", &comparison.totals);
+}

@@ -1,0 +1,142 @@
+//! The comparison must be able to fail: sides that are wrong on purpose, and what is reported of them.
+
+use compare::call::{Call, Case};
+use compare::comparison::Comparison;
+use compare::difference::hex;
+use compare::fields::to_model;
+use compare::memory::Lent;
+use compare::random::Random;
+use compare::records::pieces;
+use compare::seen::{model, Seen};
+use compare::states::sound;
+use compare::traffic::Traffic;
+use compare::watch::Watch;
+use ofersky::LISTING_BYTES;
+use std::panic::{catch_unwind, set_hook, take_hook, AssertUnwindSafe};
+
+/// The easy slip of the rules: SKIP is added after the last row too.
+fn skip_after_the_last_row(case: &Case) -> Seen {
+    let mut seen = model(case);
+    let ended = seen.number() == 0 && seen.outcome.answer.count > 0;
+    let sp = &mut seen.outcome.state.sp;
+    if ended && sp.busy == 0 && sp.len == 0xFF8 {
+        sp.ramaddr = (sp.ramaddr + sp.skip) % (1 << 24);
+    }
+    seen
+}
+
+/// Framing on the whole first byte: the table is that of the rules only for bytes below 64.
+fn sync_full_by_the_whole_byte(case: &Case) -> Seen {
+    let mut seen = model(case);
+    let [.., output, _] = &seen.bytes;
+    let whole = output.chunks(8).next().is_some_and(|word| word[0] == 0xE9);
+    if case.state.dp.wordsleft == 0 && seen.outcome.answer.count > 0 && whole {
+        seen.outcome.state.dp.line = case.state.dp.line;
+    }
+    seen
+}
+
+/// The listing's last line without its end.
+fn no_last_line_end(case: &Case) -> Seen {
+    let mut seen = model(case);
+    let listing = &mut seen.bytes[3];
+    if seen.written > 0 && listing[seen.written - 1] == b'\n' {
+        listing[seen.written - 1] = 0x5A;
+        seen.written -= 1;
+    }
+    seen
+}
+
+/// A store that writes one byte of IMEM where the length of RDRAM is refused.
+fn writes_before_it_declines(case: &Case) -> Seen {
+    let mut seen = model(case);
+    if seen.number() == 1 {
+        seen.bytes[2][8] ^= 1;
+    }
+    seen
+}
+
+/// What is reported of a wrong side, over cases that are made in order.
+fn reported(wrong: fn(&Case) -> Seen, noun: &'static str, make: fn(&mut Random) -> Case) -> String {
+    let result = catch_unwind(AssertUnwindSafe(|| {
+        let mut random = Random::new(77);
+        let mut comparison = Comparison::of(model, wrong, noun);
+        for _ in 0..20_000 {
+            comparison.check(&make(&mut random));
+        }
+    }));
+    let panic = result.expect_err("the wrong side is found");
+    *panic.downcast::<String>().expect("a report")
+}
+
+/// A recording of traffic from power-up.
+fn recording(random: &mut Random) -> Case {
+    let (state, lent) = (ofersky::power_up(), Lent::new(4_096, 3));
+    let mut traffic = Traffic::new(random, Watch::new(to_model(&state), lent.bytes()));
+    for _ in 0..6 {
+        traffic.scene();
+    }
+    let call = Call::Replay {
+        recording: traffic.bytes,
+        out: LISTING_BYTES,
+    };
+    Case { state, lent, call }
+}
+
+fn dp_run(random: &mut Random) -> Case {
+    let state = sound(random, 4_096);
+    let lent = Lent::new(4_096, random.below(1_000) + 1);
+    let (budget, out) = (random.word(), 64);
+    let call = Call::DpRun { budget, out };
+    Case { state, lent, call }
+}
+
+fn sp_turn(random: &mut Random) -> Case {
+    Case {
+        state: sound(random, 4_096),
+        lent: Lent::new(random.pick(&[4_096, 4_096, 4_096, 4_095]), 0),
+        call: Call::SpTurn,
+    }
+}
+
+/// The hex bytes of the recording in a report.
+fn shown_recording(report: &str) -> Vec<u8> {
+    let line = report.lines().find(|line| line.starts_with("recording of"));
+    let hex = line.expect("a recording").rsplit(' ').next().unwrap();
+    let byte = |i: usize| u8::from_str_radix(&hex[2 * i..2 * i + 2], 16).unwrap();
+    (0..hex.len() / 2).map(byte).collect()
+}
+
+/// The reports of these four, with the panic's own message kept off the screen.
+#[test]
+fn wrong_sides_are_found() {
+    let hook = take_hook();
+    set_hook(Box::new(|_| {}));
+    let reports = [
+        reported(skip_after_the_last_row, "recording", recording),
+        reported(no_last_line_end, "recording", recording),
+        reported(sync_full_by_the_whole_byte, "call", dp_run),
+        reported(writes_before_it_declines, "call", sp_turn),
+    ];
+    set_hook(hook);
+    for report in &reports {
+        println!("{report}");
+    }
+    let [skip, line_end, framing, declined] = reports;
+
+    let shortest = shown_recording(&skip);
+    assert!(skip.starts_with("difference at recording "));
+    assert_eq!(pieces(&shortest).len(), 2, "a write and a run suffice");
+    assert_eq!(&hex(&shortest)[..10], "0104040008");
+    assert!(skip.contains("\n  sp.ramaddr: expected 0x8 by the model, given 0x10 by the library"));
+
+    assert!(shown_recording(&line_end).is_empty());
+    assert!(line_end.contains("\n  written: expected 0x"));
+
+    assert!(framing.starts_with("difference at call "));
+    assert!(framing.contains("dp_run, budget 0x1, output of 8 bytes\n"));
+    assert!(framing.contains("\n  dp.line: expected 0x1 by the model, given 0x0 by the library"));
+
+    assert!(declined.contains("state: as at power-up\n"));
+    assert!(declined.contains("\n  IMEM at 0x8: expected "));
+}

@@ -1,0 +1,506 @@
+//! Every public call as one function: it takes the whole state and the lent
+//! memories, for every input, and gives the number, the answer and the next
+//! state. A call that is declined gives the state back as it was handed in.
+//!
+//! The states here are as a caller hands them over: a flag is a byte, which
+//! may be neither 0 nor 1. The rules themselves are in `machine` and
+//! `recording`, which know sound states only.
+
+use crate::machine::{Dp, Machine, Sp, BANK_BYTES};
+use crate::recording::{self, Record};
+
+/// The number for an RDRAM whose length is not allowed.
+pub const BAD_RDRAM: u32 = 1;
+/// The number for a DMEM that has not 4,096 bytes.
+pub const BAD_DMEM: u32 = 2;
+/// The number for an IMEM that has not 4,096 bytes.
+pub const BAD_IMEM: u32 = 3;
+/// The number for a state that is not sound.
+pub const NOT_SOUND: u32 = 4;
+
+const LARGEST_RDRAM: usize = 16_777_216;
+const WORD_BYTES: usize = 8;
+
+/// The SP engine. In `signals`, SIG0 to SIG7 are bits 0 to 7.
+#[derive(Clone, Copy, Debug, Default, PartialEq, Eq)]
+pub struct SpState {
+    pub splatch: u32,
+    pub ramlatch: u32,
+    pub spaddr: u32,
+    pub ramaddr: u32,
+    pub len: u32,
+    pub count: u32,
+    pub skip: u32,
+    pub row: u32,
+    pub waiting: u32,
+    pub busy: u8,
+    pub storing: u8,
+    pub full: u8,
+    pub waitstoring: u8,
+    pub halted: u8,
+    pub broke: u8,
+    pub sstep: u8,
+    pub intbreak: u8,
+    pub signals: u8,
+    pub line: u8,
+    pub semaphore: u8,
+}
+
+/// The DP engine.
+#[derive(Clone, Copy, Debug, Default, PartialEq, Eq)]
+pub struct DpState {
+    pub start: u32,
+    pub end: u32,
+    pub current: u32,
+    pub limit: u32,
+    pub clock: u32,
+    pub cmdcount: u32,
+    pub pipecount: u32,
+    pub tmemcount: u32,
+    pub startpending: u8,
+    pub endpending: u8,
+    pub xbus: u8,
+    pub freeze: u8,
+    pub flush: u8,
+    pub pipebusy: u8,
+    pub wordsleft: u8,
+    pub line: u8,
+}
+
+#[derive(Clone, Copy, Debug, Default, PartialEq, Eq)]
+pub struct State {
+    pub sp: SpState,
+    pub dp: DpState,
+}
+
+/// What a call gives back beside the state; number 0 is success.
+#[derive(Clone, Copy, Debug, Default, PartialEq, Eq)]
+pub struct Answer {
+    pub number: u32,
+    pub value: u64,
+    pub count: u32,
+}
+
+#[derive(Clone, Copy, Debug, Default, PartialEq, Eq)]
+pub struct Outcome {
+    pub state: State,
+    pub answer: Answer,
+}
+
+/// A part of a lent memory: 0 is RDRAM, 1 is DMEM. It has 8 bytes, or none
+/// and then offset 0.
+#[derive(Clone, Copy, Debug, Default, PartialEq, Eq)]
+pub struct Part {
+    pub memory: u32,
+    pub offset: u32,
+    pub length: u32,
+}
+
+/// A record that was read, and the place after it.
+#[derive(Clone, Copy, Debug, Default, PartialEq, Eq)]
+pub struct Reading {
+    pub number: u32,
+    pub kind: u8,
+    pub address: u32,
+    pub value: u64,
+    pub place: usize,
+}
+
+/// A replay's outcome, and how many bytes of its listing were written.
+#[derive(Clone, Copy, Debug, Default, PartialEq, Eq)]
+pub struct Replayed {
+    pub outcome: Outcome,
+    pub written: usize,
+}
+
+/// A flag's byte, if it is one.
+fn flag(byte: u8) -> Option<bool> {
+    match byte {
+        0 => Some(false),
+        1 => Some(true),
+        _ => None,
+    }
+}
+
+/// The SP engine as the rules know it, or none where a byte is no flag.
+fn sp_of(state: &SpState) -> Option<Sp> {
+    Some(Sp {
+        spaddr_latch: state.splatch,
+        ramaddr_latch: state.ramlatch,
+        waiting_word: state.waiting,
+        waiting_stores: flag(state.waitstoring)?,
+        spaddr: state.spaddr,
+        ramaddr: state.ramaddr,
+        len: state.len,
+        row: state.row,
+        count: state.count,
+        skip: state.skip,
+        stores: flag(state.storing)?,
+        busy: flag(state.busy)?,
+        full: flag(state.full)?,
+        halted: flag(state.halted)?,
+        broke: flag(state.broke)?,
+        sstep: flag(state.sstep)?,
+        intbreak: flag(state.intbreak)?,
+        signals: std::array::from_fn(|i| state.signals >> i & 1 == 1),
+        semaphore: flag(state.semaphore)?,
+        line: flag(state.line)?,
+    })
+}
+
+/// The DP engine as the rules know it, or none where a byte is no flag.
+fn dp_of(state: &DpState) -> Option<Dp> {
+    Some(Dp {
+        start: state.start,
+        end: state.end,
+        current: state.current,
+        limit: state.limit,
+        start_pending: flag(state.startpending)?,
+        end_pending: flag(state.endpending)?,
+        xbus: flag(state.xbus)?,
+        freeze: flag(state.freeze)?,
+        flush: flag(state.flush)?,
+        pipe_busy: flag(state.pipebusy)?,
+        words_left: state.wordsleft.into(),
+        clock: state.clock,
+        cmd_busy_counter: state.cmdcount,
+        pipe_busy_counter: state.pipecount,
+        tmem_busy_counter: state.tmemcount,
+        line: flag(state.line)?,
+    })
+}
+
+/// The SP engine as a caller knows it.
+fn sp_state(sp: &Sp) -> SpState {
+    let signals = sp.signals.iter().rev();
+    SpState {
+        splatch: sp.spaddr_latch,
+        ramlatch: sp.ramaddr_latch,
+        spaddr: sp.spaddr,
+        ramaddr: sp.ramaddr,
+        len: sp.len,
+        count: sp.count,
+        skip: sp.skip,
+        row: sp.row,
+        waiting: sp.waiting_word,
+        busy: sp.busy.into(),
+        storing: sp.stores.into(),
+        full: sp.full.into(),
+        waitstoring: sp.waiting_stores.into(),
+        halted: sp.halted.into(),
+        broke: sp.broke.into(),
+        sstep: sp.sstep.into(),
+        intbreak: sp.intbreak.into(),
+        signals: signals.fold(0, |byte, signal| byte << 1 | u8::from(*signal)),
+        line: sp.line.into(),
+        semaphore: sp.semaphore.into(),
+    }
+}
+
+/// The DP engine as a caller knows it.
+fn dp_state(dp: &Dp) -> DpState {
+    DpState {
+        start: dp.start,
+        end: dp.end,
+        current: dp.current,
+        limit: dp.limit,
+        clock: dp.clock,
+        cmdcount: dp.cmd_busy_counter,
+        pipecount: dp.pipe_busy_counter,
+        tmemcount: dp.tmem_busy_counter,
+        startpending: dp.start_pending.into(),
+        endpending: dp.end_pending.into(),
+        xbus: dp.xbus.into(),
+        freeze: dp.freeze.into(),
+        flush: dp.flush.into(),
+        pipebusy: dp.pipe_busy.into(),
+        wordsleft: dp.words_left as u8,
+        line: dp.line.into(),
+    }
+}
+
+/// A machine over these memories, or the number 4.
+fn machine<M>(state: &State, rdram: M, dmem: M, imem: M) -> Result<Machine<M>, u32> {
+    let sp = sp_of(&state.sp).ok_or(NOT_SOUND)?;
+    let dp = dp_of(&state.dp).ok_or(NOT_SOUND)?;
+    let machine = Machine {
+        sp,
+        dp,
+        rdram,
+        dmem,
+        imem,
+    };
+    if machine.is_sound() {
+        Ok(machine)
+    } else {
+        Err(NOT_SOUND)
+    }
+}
+
+/// A machine for a call that takes no memory.
+fn without_memory(state: &State) -> Result<Machine<()>, u32> {
+    machine(state, (), (), ())
+}
+
+/// The state that a machine is in.
+fn state_of<M>(machine: &Machine<M>) -> State {
+    State {
+        sp: sp_state(&machine.sp),
+        dp: dp_state(&machine.dp),
+    }
+}
+
+/// The length of RDRAM is a multiple of 8 from 0 to 16,777,216.
+fn check_rdram(rdram: &[u8]) -> Result<(), u32> {
+    if rdram.len() % WORD_BYTES == 0 && rdram.len() <= LARGEST_RDRAM {
+        Ok(())
+    } else {
+        Err(BAD_RDRAM)
+    }
+}
+
+/// A bank has 4,096 bytes; which one it is decides the number.
+fn check_bank(bank: &[u8], number: u32) -> Result<(), u32> {
+    if bank.len() == BANK_BYTES as usize {
+        Ok(())
+    } else {
+        Err(number)
+    }
+}
+
+/// A machine for a call that takes all three memories.
+fn with_all<'a>(
+    state: &State,
+    rdram: &'a mut [u8],
+    dmem: &'a mut [u8],
+    imem: &'a mut [u8],
+) -> Result<Machine<&'a mut [u8]>, u32> {
+    check_rdram(rdram)?;
+    check_bank(dmem, BAD_DMEM)?;
+    check_bank(imem, BAD_IMEM)?;
+    machine(state, rdram, dmem, imem)
+}
+
+/// A machine for the DP calls and the look, which take no IMEM.
+fn without_imem<'a>(
+    state: &State,
+    rdram: &'a [u8],
+    dmem: &'a [u8],
+) -> Result<Machine<&'a [u8]>, u32> {
+    check_rdram(rdram)?;
+    check_bank(dmem, BAD_DMEM)?;
+    machine(state, rdram, dmem, &[])
+}
+
+/// A call's outcome: the state, value and count of a success, or the number
+/// and the state as handed in.
+fn outcome(state: &State, done: Result<(State, u64, u32), u32>) -> Outcome {
+    let (number, (state, value, count)) = match done {
+        Ok(success) => (0, success),
+        Err(number) => (number, (*state, 0, 0)),
+    };
+    Outcome {
+        state,
+        answer: Answer {
+            number,
+            value,
+            count,
+        },
+    }
+}
+
+/// Power-up: every register and flag zero.
+pub fn power_up() -> State {
+    State::default()
+}
+
+pub fn is_sound(state: &State) -> bool {
+    without_memory(state).is_ok()
+}
+
+/// Reads a register. A read of SEMAPHORE changes the state.
+pub fn read_register(state: &State, address: u32) -> Outcome {
+    let done = without_memory(state).and_then(|mut machine| {
+        let value = machine.read(address)?;
+        Ok((state_of(&machine), value.into(), 0))
+    });
+    outcome(state, done)
+}
+
+pub fn write_register(state: &State, address: u32, value: u32) -> Outcome {
+    let done = without_memory(state).and_then(|mut machine| {
+        machine.write(address, value)?;
+        Ok((state_of(&machine), 0, 0))
+    });
+    outcome(state, done)
+}
+
+pub fn tick(state: &State, n: u32) -> Outcome {
+    let done = without_memory(state).map(|mut machine| {
+        machine.tick(n);
+        (state_of(&machine), 0, 0)
+    });
+    outcome(state, done)
+}
+
+pub fn sp_break(state: &State) -> Outcome {
+    let done = without_memory(state).map(|mut machine| {
+        machine.break_();
+        (state_of(&machine), 0, 0)
+    });
+    outcome(state, done)
+}
+
+pub fn acknowledge(state: &State) -> Outcome {
+    let done = without_memory(state).map(|mut machine| {
+        machine.acknowledge();
+        (state_of(&machine), 0, 0)
+    });
+    outcome(state, done)
+}
+
+/// One SP turn. The count is 1 if it moved a word.
+pub fn sp_turn(state: &State, rdram: &mut [u8], dmem: &mut [u8], imem: &mut [u8]) -> Outcome {
+    let done = with_all(state, rdram, dmem, imem).map(|mut machine| {
+        let count = machine.sp_turn();
+        (state_of(&machine), 0, count)
+    });
+    outcome(state, done)
+}
+
+/// An SP run. The count is the number of words moved.
+pub fn sp_run(
+    state: &State,
+    budget: u32,
+    rdram: &mut [u8],
+    dmem: &mut [u8],
+    imem: &mut [u8],
+) -> Outcome {
+    let done = with_all(state, rdram, dmem, imem).map(|mut machine| {
+        let count = machine.sp_run(budget);
+        (state_of(&machine), 0, count)
+    });
+    outcome(state, done)
+}
+
+/// One DP turn. The value is the word handed out, and the count is 1 if there
+/// was one.
+pub fn dp_turn(state: &State, rdram: &[u8], dmem: &[u8]) -> Outcome {
+    let done = without_imem(state, rdram, dmem).map(|mut machine| {
+        let word = machine.dp_turn();
+        (
+            state_of(&machine),
+            word.unwrap_or(0),
+            u32::from(word.is_some()),
+        )
+    });
+    outcome(state, done)
+}
+
+/// A DP run. The words stand in `out`, and the count is their number.
+pub fn dp_run(state: &State, budget: u32, rdram: &[u8], dmem: &[u8], out: &mut [u8]) -> Outcome {
+    let done = without_imem(state, rdram, dmem).map(|mut machine| {
+        let count = machine.dp_run(budget, out);
+        (state_of(&machine), 0, count)
+    });
+    outcome(state, done)
+}
+
+/// Where the next drawing word stands. An empty part is at the start of the
+/// memory that XBUS selects, or of RDRAM where a byte of the state is no flag.
+pub fn look_ahead(state: &State, rdram: &[u8], dmem: &[u8]) -> Part {
+    let (Some(_), Some(dp)) = (sp_of(&state.sp), dp_of(&state.dp)) else {
+        return Part::default();
+    };
+    let empty = Part {
+        memory: dp.xbus.into(),
+        ..Part::default()
+    };
+    if without_imem(state, rdram, dmem).is_err() || !dp.runs() || dp.freeze {
+        return empty;
+    }
+    let (memory, offset) = if dp.xbus {
+        (dmem, dp.current % BANK_BYTES)
+    } else {
+        (rdram, dp.current)
+    };
+    if offset as usize + WORD_BYTES > memory.len() {
+        return empty;
+    }
+    Part {
+        offset,
+        length: WORD_BYTES as u32,
+        ..empty
+    }
+}
+
+/// The kind, address and value of a record; fields that it does not have
+/// are 0.
+fn fields(record: Record) -> (u8, u32, u64) {
+    match record {
+        Record::Write { address, value } => (1, address, value.into()),
+        Record::Read { address, expected } => (2, address, expected.into()),
+        Record::SpRun { budget } => (3, 0, budget.into()),
+        Record::DpRun { budget } => (4, 0, budget.into()),
+        Record::Tick { n } => (5, 0, n.into()),
+        Record::Break => (6, 0, 0),
+        Record::Acknowledge => (7, 0, 0),
+        Record::Store { address, word } => (8, address, word),
+        Record::Check { address, expected } => (9, address, expected),
+    }
+}
+
+/// Reads the record at a place, whatever the place is.
+pub fn read_record(recording: &[u8], place: usize) -> Reading {
+    match recording::record_at(recording, place) {
+        Ok((record, place)) => {
+            let (kind, address, value) = fields(record);
+            Reading {
+                number: 0,
+                kind,
+                address,
+                value,
+                place,
+            }
+        }
+        Err(number) => Reading {
+            number,
+            ..Reading::default()
+        },
+    }
+}
+
+/// Replays a recording and writes as much of its listing as `out` has room
+/// for. It stops at the first record that is refused, and what the records
+/// before it did stays done.
+pub fn replay(
+    state: &State,
+    recording: &[u8],
+    rdram: &mut [u8],
+    dmem: &mut [u8],
+    imem: &mut [u8],
+    out: &mut [u8],
+) -> Replayed {
+    // A recording that is too long is refused before anything else.
+    let ready =
+        recording::check_length(recording).and_then(|()| with_all(state, rdram, dmem, imem));
+    let (state, replay) = match ready {
+        Ok(mut machine) => {
+            let replay = recording::replay(&mut machine, recording);
+            (state_of(&machine), replay)
+        }
+        Err(number) => (*state, recording::refused(number)),
+    };
+    let listing = replay.listing.as_bytes();
+    let written = listing.len().min(out.len());
+    out[..written].copy_from_slice(&listing[..written]);
+    let answer = Answer {
+        number: replay.number,
+        value: 0,
+        count: replay.count,
+    };
+    Replayed {
+        outcome: Outcome { state, answer },
+        written,
+    }
+}

@@ -1,0 +1,307 @@
+//! States, memories and expectations that the tests of the calls share.
+
+#![allow(dead_code)]
+
+use model::calls::*;
+
+/// Bytes of DMEM, and of IMEM.
+pub const BANK: usize = 4_096;
+
+/// A state and memories of its own, which the calls are lent.
+#[derive(Clone, PartialEq)]
+pub struct Bench {
+    pub state: State,
+    pub rdram: Vec<u8>,
+    pub dmem: Vec<u8>,
+    pub imem: Vec<u8>,
+}
+
+impl Bench {
+    pub fn new() -> Bench {
+        Bench {
+            state: power_up(),
+            rdram: vec![0; 65_536],
+            dmem: vec![0; BANK],
+            imem: vec![0; BANK],
+        }
+    }
+
+    /// Engines that run over memories that are filled.
+    pub fn running() -> Bench {
+        let mut bench = Bench::new();
+        bench.state = running();
+        bench.fill();
+        bench
+    }
+
+    /// Bytes that are never zero and do not repeat by a power of two.
+    pub fn fill(&mut self) {
+        let memories = [&mut self.rdram, &mut self.dmem, &mut self.imem];
+        for (seed, memory) in memories.into_iter().enumerate() {
+            for (i, byte) in memory.iter_mut().enumerate() {
+                *byte = 1 + ((i * 7 + i / 251 + 83 * seed) % 255) as u8;
+            }
+        }
+    }
+
+    /// Goes on with an outcome's state, which must be sound.
+    pub fn took(&mut self, outcome: Outcome, expected: Answer) {
+        assert_eq!(outcome.answer, expected);
+        assert!(is_sound(&outcome.state));
+        self.state = outcome.state;
+    }
+
+    pub fn writes(&mut self, pairs: &[(u32, u32)]) {
+        for (address, value) in pairs {
+            let outcome = write_register(&self.state, *address, *value);
+            self.took(outcome, success(0, 0));
+        }
+    }
+
+    pub fn reads(&mut self, pairs: &[(u32, u32)]) {
+        for (address, value) in pairs {
+            let outcome = read_register(&self.state, *address);
+            self.took(outcome, success((*value).into(), 0));
+        }
+    }
+
+    pub fn lines(&self, sp: u8, dp: u8) {
+        assert_eq!((self.state.sp.line, self.state.dp.line), (sp, dp));
+    }
+
+    /// Goes on with an outcome's state and gives its answer.
+    fn answered(&mut self, outcome: Outcome) -> Answer {
+        self.took(outcome, outcome.answer);
+        outcome.answer
+    }
+
+    pub fn sp_turn(&mut self) -> Answer {
+        let (rdram, dmem, imem) = (&mut self.rdram, &mut self.dmem, &mut self.imem);
+        let outcome = sp_turn(&self.state, rdram, dmem, imem);
+        self.answered(outcome)
+    }
+
+    /// Turns that each move a word.
+    pub fn sp_turns(&mut self, turns: u32) {
+        for _ in 0..turns {
+            assert_eq!(self.sp_turn(), success(0, 1));
+        }
+    }
+
+    pub fn sp_run(&mut self, budget: u32) -> Answer {
+        let (rdram, dmem, imem) = (&mut self.rdram, &mut self.dmem, &mut self.imem);
+        let outcome = sp_run(&self.state, budget, rdram, dmem, imem);
+        self.answered(outcome)
+    }
+
+    pub fn dp_turn(&mut self) -> Answer {
+        let outcome = dp_turn(&self.state, &self.rdram, &self.dmem);
+        self.answered(outcome)
+    }
+
+    pub fn dp_run(&mut self, budget: u32, out: &mut [u8]) -> Answer {
+        let outcome = dp_run(&self.state, budget, &self.rdram, &self.dmem, out);
+        self.answered(outcome)
+    }
+
+    pub fn look(&self) -> Part {
+        look_ahead(&self.state, &self.rdram, &self.dmem)
+    }
+
+    /// A replay with its listing. The state is not gone on with.
+    pub fn replay(&mut self, recording: &[u8]) -> (Outcome, String) {
+        let mut out = vec![0x55; 70_000];
+        let (rdram, dmem, imem) = (&mut self.rdram, &mut self.dmem, &mut self.imem);
+        let replayed = replay(&self.state, recording, rdram, dmem, imem, &mut out);
+        assert!(out[replayed.written..].iter().all(|byte| *byte == 0x55));
+        out.truncate(replayed.written);
+        let listing = String::from_utf8(out).expect("a text");
+        (replayed.outcome, listing)
+    }
+}
+
+pub fn success(value: u64, count: u32) -> Answer {
+    Answer {
+        number: 0,
+        value,
+        count,
+    }
+}
+
+/// The outcome of a call that is declined.
+pub fn declined(state: &State, number: u32) -> Outcome {
+    Outcome {
+        state: *state,
+        answer: Answer {
+            number,
+            value: 0,
+            count: 0,
+        },
+    }
+}
+
+/// A sound state with a store and a list that run, so that no turn on it
+/// leaves it as it was.
+pub fn running() -> State {
+    let mut state = power_up();
+    state.sp.busy = 1;
+    state.sp.storing = 1;
+    state.sp.row = 0x20;
+    state.sp.len = 0x18;
+    state.dp.current = 0x28;
+    state.dp.limit = 0x38;
+    state
+}
+
+/// A sound state in which no two numbers of an engine are alike and most flags
+/// are on.
+pub fn full_state() -> State {
+    State {
+        sp: full_sp(),
+        dp: full_dp(),
+    }
+}
+
+fn full_sp() -> SpState {
+    SpState {
+        splatch: 0x1008,
+        ramlatch: 0x10,
+        spaddr: 0x1018,
+        ramaddr: 0x20,
+        len: 0x30,
+        count: 0x40,
+        skip: 0x50,
+        row: 0x60,
+        waiting: 0xFFFF_FFF1,
+        busy: 1,
+        storing: 1,
+        full: 1,
+        waitstoring: 1,
+        halted: 0,
+        broke: 0,
+        sstep: 1,
+        intbreak: 1,
+        signals: 0xA5,
+        line: 0,
+        semaphore: 0,
+    }
+}
+
+fn full_dp() -> DpState {
+    DpState {
+        start: 0x70,
+        end: 0x80,
+        current: 0x90,
+        limit: 0xA0,
+        clock: 0x10,
+        cmdcount: 0xFF_F00F,
+        pipecount: 0x30,
+        tmemcount: 0x40,
+        startpending: 1,
+        endpending: 1,
+        xbus: 1,
+        freeze: 0,
+        flush: 0,
+        pipebusy: 1,
+        wordsleft: 21,
+        line: 1,
+    }
+}
+
+type Flag = (&'static str, fn(&mut State) -> &mut u8);
+
+/// Every field that is a flag.
+pub const FLAGS: [Flag; 17] = [
+    ("busy", |state| &mut state.sp.busy),
+    ("storing", |state| &mut state.sp.storing),
+    ("full", |state| &mut state.sp.full),
+    ("waitstoring", |state| &mut state.sp.waitstoring),
+    ("halted", |state| &mut state.sp.halted),
+    ("broke", |state| &mut state.sp.broke),
+    ("sstep", |state| &mut state.sp.sstep),
+    ("intbreak", |state| &mut state.sp.intbreak),
+    ("sp line", |state| &mut state.sp.line),
+    ("semaphore", |state| &mut state.sp.semaphore),
+    ("startpending", |state| &mut state.dp.startpending),
+    ("endpending", |state| &mut state.dp.endpending),
+    ("xbus", |state| &mut state.dp.xbus),
+    ("freeze", |state| &mut state.dp.freeze),
+    ("flush", |state| &mut state.dp.flush),
+    ("pipebusy", |state| &mut state.dp.pipebusy),
+    ("dp line", |state| &mut state.dp.line),
+];
+
+/// A number's name, its field, the greatest value and the step between values.
+type Number = (&'static str, fn(&mut State) -> &mut u32, u32, u32);
+
+/// Every field that is a 32-bit number.
+pub const NUMBERS: [Number; 17] = [
+    ("splatch", |state| &mut state.sp.splatch, 0x1FF8, 8),
+    ("ramlatch", |state| &mut state.sp.ramlatch, 0xFF_FFF8, 8),
+    ("spaddr", |state| &mut state.sp.spaddr, 0x1FF8, 8),
+    ("ramaddr", |state| &mut state.sp.ramaddr, 0xFF_FFF8, 8),
+    ("len", |state| &mut state.sp.len, 0xFF8, 8),
+    ("count", |state| &mut state.sp.count, 0xFF, 1),
+    ("skip", |state| &mut state.sp.skip, 0xFF8, 8),
+    ("row", |state| &mut state.sp.row, 0xFF8, 8),
+    ("waiting", |state| &mut state.sp.waiting, u32::MAX, 1),
+    ("start", |state| &mut state.dp.start, 0xFF_FFF8, 8),
+    ("end", |state| &mut state.dp.end, 0xFF_FFF8, 8),
+    ("current", |state| &mut state.dp.current, 0xFF_FFF8, 8),
+    ("limit", |state| &mut state.dp.limit, 0xFF_FFF8, 8),
+    ("clock", |state| &mut state.dp.clock, 0xFF_FFFF, 1),
+    ("cmdcount", |state| &mut state.dp.cmdcount, 0xFF_FFFF, 1),
+    ("pipecount", |state| &mut state.dp.pipecount, 0xFF_FFFF, 1),
+    ("tmemcount", |state| &mut state.dp.tmemcount, 0xFF_FFFF, 1),
+];
+
+/// What the calls on memory give: those that take IMEM, and those that do
+/// not. A call that is declined leaves all as it was.
+pub fn expect_numbers(bench: &Bench, all: u32, without_imem: u32) {
+    let mut tried = bench.clone();
+    let (rdram, dmem, imem) = (&mut tried.rdram, &mut tried.dmem, &mut tried.imem);
+    let mut out = [0x55; 32];
+    let outcomes = [
+        (sp_turn(&bench.state, rdram, dmem, imem), all),
+        (sp_run(&bench.state, 4, rdram, dmem, imem), all),
+        (dp_turn(&bench.state, rdram, dmem), without_imem),
+        (dp_run(&bench.state, 4, rdram, dmem, &mut out), without_imem),
+    ];
+    for (outcome, number) in outcomes {
+        assert_eq!(outcome.answer.number, number);
+        if number != 0 {
+            assert_eq!(outcome, declined(&bench.state, number));
+        }
+    }
+    assert_eq!(out == [0x55; 32], without_imem != 0);
+    if all != 0 {
+        assert!(tried == *bench);
+        expect_replay(bench, &[6], all);
+    }
+}
+
+/// What the calls that take no memory give.
+pub fn expect_register_calls(state: &State, number: u32) {
+    let outcomes = [
+        read_register(state, 0x0404_001C),
+        write_register(state, 0x0410_0000, 8),
+        tick(state, 1),
+        sp_break(state),
+        acknowledge(state),
+    ];
+    for outcome in outcomes {
+        assert_eq!(outcome.answer.number, number);
+        if number != 0 {
+            assert_eq!(outcome, declined(state, number));
+        }
+    }
+}
+
+/// A replay that is declined before its first record.
+pub fn expect_replay(bench: &Bench, recording: &[u8], number: u32) {
+    let mut tried = bench.clone();
+    let (outcome, listing) = tried.replay(recording);
+    assert_eq!(outcome, declined(&bench.state, number));
+    assert_eq!(listing, format!("replay 1\nstop 0 {number}\n"));
+    assert!(tried == *bench);
+}

@@ -1,0 +1,408 @@
+//! The reader of recordings and the replay as single calls: every refusal in
+//! its case and order, the room for the listing, and what stays done.
+
+mod common;
+
+use common::*;
+use model::calls::*;
+use model::machine::REGISTERS;
+use std::process::Command;
+
+/// The paper's whole case.
+const WHOLE_CASE: [u8; 32] = [
+    0x01, 0x04, 0x04, 0x00, 0x00, 0x00, 0x00, 0x1F, 0xF8, 0x01, 0x04, 0x04, 0x00, 0x08, 0x00, 0x00,
+    0x00, 0x0F, 0x03, 0x00, 0x00, 0x00, 0x02, 0x02, 0x04, 0x04, 0x00, 0x00, 0x00, 0x00, 0x10, 0x08,
+];
+const WHOLE_LISTING: &str = "replay 1\nS 00000002\nR 04040000 00001008 ok\nend 4\n";
+
+/// A reading that succeeds.
+fn reading(kind: u8, address: u32, value: u64, place: usize) -> Reading {
+    Reading {
+        number: 0,
+        kind,
+        address,
+        value,
+        place,
+    }
+}
+
+/// A reading that is declined: no record, and place 0.
+fn refusal(number: u32) -> Reading {
+    Reading {
+        number,
+        ..reading(0, 0, 0, 0)
+    }
+}
+
+/// A kind and its fields as bytes.
+fn record(kind: u8, address: u32, value: &[u8]) -> Vec<u8> {
+    [&[kind], &address.to_be_bytes()[..], value].concat()
+}
+
+#[test]
+fn the_whole_case_is_read_record_by_record() {
+    let expected = [
+        (0, reading(1, 0x0404_0000, 0x1FF8, 9)),
+        (9, reading(1, 0x0404_0008, 0x0F, 18)),
+        (18, reading(3, 0, 2, 23)),
+        (23, reading(2, 0x0404_0000, 0x1008, 32)),
+        (32, refusal(8)),
+    ];
+    for (place, reading) in expected {
+        assert_eq!(read_record(&WHOLE_CASE, place), reading);
+    }
+}
+
+#[test]
+fn each_kind_has_its_fields() {
+    let four = [0xFE, 0xDC, 0xBA, 0x98];
+    let eight = [0xFE, 0xDC, 0xBA, 0x98, 0x76, 0x54, 0x32, 0x10];
+    let register = 0x0410_001C;
+    let word = 0xFEDC_BA98_7654_3210;
+    let kinds = [
+        (record(1, register, &four), register, 0xFEDC_BA98),
+        (record(2, register, &four), register, 0xFEDC_BA98),
+        ([&[3][..], &four].concat(), 0, 0xFEDC_BA98),
+        ([&[4][..], &four].concat(), 0, 0xFEDC_BA98),
+        ([&[5][..], &four].concat(), 0, 0xFEDC_BA98),
+        (vec![6], 0, 0),
+        (vec![7], 0, 0),
+        (record(8, 0x0400_1FF8, &eight), 0x0400_1FF8, word),
+        (record(9, 0x03EF_FFF8, &eight), 0x03EF_FFF8, word),
+    ];
+    for (i, (bytes, address, value)) in kinds.into_iter().enumerate() {
+        let kind = i as u8 + 1;
+        for before in [0, 1, 7] {
+            // What stands before and after a record is not looked at.
+            let mut recording = vec![0xFF; before];
+            recording.extend(&bytes);
+            let place = recording.len();
+            let expected = reading(kind, address, value, place);
+            assert_eq!(read_record(&recording, before), expected);
+            recording.extend([0xFF; 20]);
+            assert_eq!(read_record(&recording, before), expected);
+        }
+    }
+}
+
+#[test]
+fn a_reading_at_or_past_the_end_is_cut_short() {
+    for recording in [&[][..], &[6], &[0; 30], &[6; 16_383]] {
+        let end = recording.len();
+        for place in [end, end + 1, end + 8, usize::MAX - 12, usize::MAX] {
+            assert_eq!(read_record(recording, place), refusal(8));
+        }
+    }
+}
+
+#[test]
+fn a_reading_of_a_recording_that_is_too_long_gives_9_at_every_place() {
+    let longest = [6; 16_383];
+    assert_eq!(read_record(&longest, 0), reading(6, 0, 0, 1));
+    assert_eq!(read_record(&longest, 16_382), reading(6, 0, 0, 16_383));
+    for byte in [6, 0] {
+        let longer = [byte; 16_384];
+        for place in [0, 1, 16_383, 16_384, usize::MAX] {
+            assert_eq!(read_record(&longer, place), refusal(9));
+        }
+    }
+}
+
+#[test]
+fn an_unknown_kind_comes_before_a_record_cut_short() {
+    for kind in 0..=255 {
+        let number = read_record(&[kind], 0).number;
+        let expected = match kind {
+            6 | 7 => 0,
+            1..=9 => 8,
+            _ => 7,
+        };
+        assert_eq!(number, expected, "{kind}");
+        if number != 0 {
+            assert_eq!(read_record(&[kind], 0), refusal(number));
+        }
+    }
+}
+
+#[test]
+fn a_record_cut_short_comes_before_its_address() {
+    for (kind, body, whole) in [(1, 8, 5), (2, 8, 5), (8, 12, 6), (9, 12, 6)] {
+        let mut recording = vec![kind];
+        for _ in 0..body {
+            assert_eq!(read_record(&recording, 0), refusal(8), "{kind}");
+            recording.push(0xFF);
+        }
+        assert_eq!(read_record(&recording, 0), refusal(whole), "{kind}");
+    }
+    for kind in [3, 4, 5] {
+        let mut recording = vec![kind];
+        for _ in 0..4 {
+            assert_eq!(read_record(&recording, 0), refusal(8), "{kind}");
+            recording.push(0);
+        }
+        assert_eq!(read_record(&recording, 0), reading(kind, 0, 0, 5));
+    }
+}
+
+#[test]
+fn the_reader_refuses_addresses_of_registers() {
+    let refused = [
+        0,
+        0x0403_FFFC,
+        0x0404_0001,
+        0x0404_0020,
+        0x040F_FFFC,
+        0x0410_0002,
+        0x0410_0020,
+        0xFFFF_FFFF,
+    ];
+    for kind in [1, 2] {
+        for address in REGISTERS {
+            let bytes = record(kind, address, &[0; 4]);
+            assert_eq!(read_record(&bytes, 0), reading(kind, address, 0, 9));
+        }
+        for address in refused {
+            let bytes = record(kind, address, &[0; 4]);
+            assert_eq!(read_record(&bytes, 0), refusal(5), "{address:08X}");
+        }
+    }
+}
+
+#[test]
+fn the_reader_refuses_addresses_of_memory() {
+    let allowed = [
+        0,
+        0x00FF_FFF8,
+        0x0100_0000,
+        0x03EF_FFF8,
+        0x0400_0000,
+        0x0400_1FF8,
+    ];
+    let refused = [
+        1,
+        4,
+        0x03EF_FFFC,
+        0x03F0_0000,
+        0x03FF_FFF8,
+        0x0400_0007,
+        0x0400_2000,
+        0x0404_0000,
+        0xFFFF_FFF8,
+    ];
+    for kind in [8, 9] {
+        for address in allowed {
+            let bytes = record(kind, address, &[0; 8]);
+            assert_eq!(read_record(&bytes, 0), reading(kind, address, 0, 13));
+        }
+        for address in refused {
+            let bytes = record(kind, address, &[0; 8]);
+            assert_eq!(read_record(&bytes, 0), refusal(6), "{address:08X}");
+        }
+    }
+}
+
+#[test]
+fn the_whole_case_replays() {
+    let mut bench = Bench::new();
+    let (outcome, listing) = bench.replay(&WHOLE_CASE);
+    assert_eq!(listing, WHOLE_LISTING);
+    assert_eq!(outcome.answer, success(0, 4));
+    assert_eq!(outcome.state.sp.spaddr, 0x1008);
+    assert_eq!(bench.replay(&[]).1, "replay 1\nend 0\n");
+}
+
+/// As much of the listing as has room is written, and no byte after it.
+#[test]
+fn the_listing_takes_the_room_there_is() {
+    let whole = WHOLE_LISTING.as_bytes();
+    for room in 0..whole.len() + 3 {
+        let mut bench = Bench::new();
+        let mut out = vec![0x55; room];
+        let (rdram, dmem, imem) = (&mut bench.rdram, &mut bench.dmem, &mut bench.imem);
+        let replayed = replay(&bench.state, &WHOLE_CASE, rdram, dmem, imem, &mut out);
+        let fits = room.min(whole.len());
+        assert_eq!(replayed.written, fits);
+        assert_eq!(out[..fits], whole[..fits]);
+        assert!(out[fits..].iter().all(|byte| *byte == 0x55));
+        // The records are done all the same.
+        assert_eq!(replayed.outcome.answer, success(0, 4));
+    }
+}
+
+/// A recording of a BREAK, a store to each memory and one bad record.
+fn with_bad_record(bad: &[u8]) -> Vec<u8> {
+    let word = [1, 2, 3, 4, 5, 6, 7, 8];
+    [
+        &[6][..],
+        &record(8, 0x10, &word),
+        &record(8, 0x0400_0FF8, &word),
+        &record(8, 0x0400_1000, &word),
+        bad,
+    ]
+    .concat()
+}
+
+/// What stood before the declined record stays done, and the count is the
+/// number of those records.
+#[test]
+fn a_replay_stops_at_the_declined_record() {
+    let bads = [
+        (record(1, 0x0404_0020, &[0; 4]), 5),
+        (record(2, 0, &[0; 4]), 5),
+        (record(8, 0x03F0_0000, &[0; 8]), 6),
+        (record(9, 4, &[0; 8]), 6),
+        (vec![0], 7),
+        (vec![10, 6, 6], 7),
+        (vec![5, 0, 0, 0], 8),
+    ];
+    for (bad, number) in bads {
+        let mut bench = Bench::running();
+        let mut expected = bench.clone();
+        expected.state = sp_break(&bench.state).state;
+        let word = [1, 2, 3, 4, 5, 6, 7, 8];
+        expected.rdram[0x10..0x18].copy_from_slice(&word);
+        expected.dmem[0xFF8..].copy_from_slice(&word);
+        expected.imem[..8].copy_from_slice(&word);
+        let (outcome, listing) = bench.replay(&with_bad_record(&bad));
+        bench.state = outcome.state;
+        assert!(bench == expected);
+        let answer = outcome.answer;
+        assert_eq!((answer.number, answer.value, answer.count), (number, 0, 4));
+        assert_eq!(listing, format!("replay 1\nstop 4 {number}\n"));
+    }
+}
+
+/// The header and the stop line are written though nothing is done.
+#[test]
+fn a_replay_that_is_declined_at_once_still_has_a_listing() {
+    let good = Bench::running();
+    expect_replay(&good, &[6; 16_384], 9);
+    let declines = |change: fn(&mut Bench), number: u32| {
+        let mut bench = good.clone();
+        change(&mut bench);
+        expect_replay(&bench, &WHOLE_CASE, number);
+        expect_replay(&bench, &[], number);
+        expect_replay(&bench, &[0], number);
+        expect_replay(&bench, &[0; 16_384], 9);
+    };
+    declines(|bench| bench.rdram.push(0), 1);
+    declines(|bench| bench.dmem.push(0), 2);
+    declines(|bench| bench.imem.push(0), 3);
+    declines(|bench| bench.state.sp.len = 0x28, 4);
+    declines(|bench| bench.state.dp.line = 2, 4);
+}
+
+/// RDRAM is the lent one, of any length that is allowed.
+#[test]
+fn a_store_past_the_lent_length_is_dropped() {
+    let mut bench = Bench::new();
+    bench.rdram = vec![0x11; 16];
+    let before = bench.clone();
+    let recording = [
+        record(8, 0x10, &[0xFF; 8]),
+        record(8, 0x0100_0000, &[0xFF; 8]),
+        record(9, 0x08, &[0x11; 8]),
+        record(9, 0x10, &[0x11; 8]),
+    ]
+    .concat();
+    let (outcome, listing) = bench.replay(&recording);
+    assert_eq!(outcome.answer, success(0, 4));
+    let found = "L 00000008 1111111111111111 ok\n\
+        L 00000010 0000000000000000 expected 1111111111111111\n";
+    assert_eq!(listing, format!("replay 1\n{found}end 4\n"));
+    assert!(bench == before);
+}
+
+/// Each DP run of a replay has 2,048 bytes of output of its own.
+#[test]
+fn each_dp_run_has_its_own_output() {
+    let mut bench = Bench::new();
+    bench.state.dp.limit = 8 * 600;
+    let run = [4, 0xFF, 0xFF, 0xFF, 0xFF];
+    let (outcome, listing) = bench.replay(&[run; 4].concat());
+    let lines = "D 00000100\nD 00000100\nD 00000058\nD 00000000\n";
+    assert_eq!(listing, format!("replay 1\n{lines}end 4\n"));
+    assert_eq!(outcome.answer, success(0, 4));
+    assert_eq!(outcome.state.dp.current, 8 * 600);
+}
+
+/// The line of a read or a check, by the paper's form.
+fn compared(letter: char, address: u32, found: u64, expected: u64) -> String {
+    let digits = if letter == 'R' { 8 } else { 16 };
+    let end = if found == expected {
+        "ok".to_string()
+    } else {
+        format!("expected {expected:0digits$X}")
+    };
+    format!("{letter} {address:08X} {found:0digits$X} {end}\n")
+}
+
+/// The memory that a store or a check means, and the place in it.
+fn memory(bench: &mut Bench, address: u32) -> Option<&mut [u8]> {
+    let (memory, place) = match address {
+        0x0400_0000..=0x0400_0FFF => (&mut bench.dmem, address - 0x0400_0000),
+        0x0400_1000..=0x0400_1FFF => (&mut bench.imem, address - 0x0400_1000),
+        _ => (&mut bench.rdram, address),
+    };
+    memory.get_mut(place as usize..place as usize + 8)
+}
+
+/// Does one record by the single calls and gives its line.
+fn by_single_calls(bench: &mut Bench, reading: Reading) -> String {
+    let state = bench.state;
+    let Reading { address, value, .. } = reading;
+    let number = value as u32;
+    match reading.kind {
+        1 => bench.took(write_register(&state, address, number), success(0, 0)),
+        2 => {
+            let outcome = read_register(&state, address);
+            bench.state = outcome.state;
+            return compared('R', address, outcome.answer.value, value);
+        }
+        3 => return format!("S {:08X}\n", bench.sp_run(number).count),
+        4 => return format!("D {:08X}\n", bench.dp_run(number, &mut [0; 2_048]).count),
+        5 => bench.took(tick(&state, number), success(0, 0)),
+        6 => bench.took(sp_break(&state), success(0, 0)),
+        7 => bench.took(acknowledge(&state), success(0, 0)),
+        8 => {
+            if let Some(bytes) = memory(bench, address) {
+                bytes.copy_from_slice(&value.to_be_bytes());
+            }
+        }
+        _ => {
+            let found = memory(bench, address).map_or([0; 8], |b| b.try_into().expect("8 bytes"));
+            return compared('L', address, u64::from_be_bytes(found), value);
+        }
+    }
+    String::new()
+}
+
+/// A replay is the reader and the single calls, one after the other.
+#[test]
+fn a_replay_is_its_records() {
+    for seed in 1..=4 {
+        let program = env!("CARGO_BIN_EXE_generate");
+        let made = Command::new(program)
+            .args([seed.to_string(), "9000".to_string()])
+            .output();
+        let recording = made.expect("the program runs").stdout;
+        assert!(recording.len() > 8_900);
+        let mut whole = Bench::new();
+        whole.rdram = vec![0; 32_768];
+        let mut single = whole.clone();
+        let (outcome, listing) = whole.replay(&recording);
+        whole.state = outcome.state;
+        let mut expected = String::from("replay 1\n");
+        let (mut place, mut count) = (0, 0);
+        while place < recording.len() {
+            let reading = read_record(&recording, place);
+            assert_eq!(reading.number, 0);
+            place = reading.place;
+            count += 1;
+            expected += &by_single_calls(&mut single, reading);
+        }
+        assert_eq!(listing, expected + &format!("end {count}\n"));
+        assert_eq!(outcome.answer, success(0, count));
+        assert!(whole == single);
+    }
+}

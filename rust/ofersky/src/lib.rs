@@ -1,0 +1,248 @@
+//! Two DMA engines over lent memory, proved in Rattle, for Rust programs.
+//!
+//! Every call takes every input. Bad input goes through to the library, which refuses it by number:
+//! nothing is filtered here. A state goes in by value and comes back in an [`Outcome`].
+//!
+//! ```
+//! let mut rdram = vec![0; 32768];
+//! let (mut dmem, mut imem) = ([0; 4096], [0; 4096]);
+//! // RDLEN 0x0F loads two words; the run moves them.
+//! let started = ofersky::write_register(ofersky::power_up(), 0x0404_0008, 0x0F);
+//! let ran = ofersky::sp_run(started.state, 100, &mut rdram, &mut dmem, &mut imem);
+//! assert_eq!((ran.answer.number, ran.answer.count), (0, 2));
+//! ```
+
+/// The calls as the library exports them: a slice is a pointer and then a length.
+mod raw;
+
+/// The registers of the SP engine. A flag is a byte, 0 or 1; a state with any other byte there is not sound.
+#[repr(C)]
+#[derive(Clone, Copy, Debug, Default, PartialEq, Eq)]
+pub struct SpState {
+    /// What SPADDR and RAMADDR were last written with; the next transfer starts from them.
+    pub splatch: u32,
+    pub ramlatch: u32,
+    /// The running or last transfer. Bit 12 of SPADDR picks IMEM.
+    pub spaddr: u32,
+    pub ramaddr: u32,
+    pub len: u32,
+    pub count: u32,
+    pub skip: u32,
+    /// LEN at the start.
+    pub row: u32,
+    /// The length word that waits, or waited last.
+    pub waiting: u32,
+    pub busy: u8,
+    /// The direction of the running or last transfer: 1 stores into RDRAM.
+    pub storing: u8,
+    pub full: u8,
+    /// The direction that waits, or waited last.
+    pub waitstoring: u8,
+    pub halted: u8,
+    pub broke: u8,
+    pub sstep: u8,
+    pub intbreak: u8,
+    /// No flag: SIG0 to SIG7 are bits 0 to 7.
+    pub signals: u8,
+    /// The SP interrupt line.
+    pub line: u8,
+    pub semaphore: u8,
+}
+
+/// The registers of the DP engine.
+#[repr(C)]
+#[derive(Clone, Copy, Debug, Default, PartialEq, Eq)]
+pub struct DpState {
+    /// START and END as last written.
+    pub start: u32,
+    pub end: u32,
+    /// The running list: the next word's address, and the list's end.
+    pub current: u32,
+    pub limit: u32,
+    pub clock: u32,
+    /// The CMD_BUSY, PIPE_BUSY and TMEM_BUSY counters.
+    pub cmdcount: u32,
+    pub pipecount: u32,
+    pub tmemcount: u32,
+    pub startpending: u8,
+    pub endpending: u8,
+    pub xbus: u8,
+    pub freeze: u8,
+    pub flush: u8,
+    pub pipebusy: u8,
+    /// No flag: the words left of the command that is being fetched.
+    pub wordsleft: u8,
+    /// The DP interrupt line.
+    pub line: u8,
+}
+
+/// Both engines.
+#[repr(C)]
+#[derive(Clone, Copy, Debug, Default, PartialEq, Eq)]
+pub struct State {
+    pub sp: SpState,
+    pub dp: DpState,
+}
+
+/// What a call gives back beside the state: 0 or the number of the refusal, a value and a count.
+#[repr(C)]
+#[derive(Clone, Copy, Debug, Default, PartialEq, Eq)]
+pub struct Answer {
+    pub number: u32,
+    pub value: u64,
+    pub count: u32,
+}
+
+/// The next state, or after a refusal the state as handed in, and the answer.
+#[repr(C)]
+#[derive(Clone, Copy, Debug, Default, PartialEq, Eq)]
+pub struct Outcome {
+    pub state: State,
+    pub answer: Answer,
+}
+
+/// Where the next drawing word stands: in RDRAM (`memory` 0) or in DMEM (1), `length` bytes from `offset` on. The length is 8, or 0.
+#[repr(C)]
+#[derive(Clone, Copy, Debug, Default, PartialEq, Eq)]
+pub struct Part {
+    pub memory: u32,
+    pub offset: u32,
+    pub length: u32,
+}
+
+/// A record. `value` is the second field of kinds 1, 2, 8 and 9, and the only one of kinds 3, 4 and 5; a field that a kind does not have is 0.
+#[repr(C)]
+#[derive(Clone, Copy, Debug, Default, PartialEq, Eq)]
+pub struct Record {
+    pub value: u64,
+    pub address: u32,
+    pub kind: u8,
+}
+
+/// What the reader gives: the record and the place after it; or the number of the refusal, kind 0 and place 0.
+#[repr(C)]
+#[derive(Clone, Copy, Debug, Default, PartialEq, Eq)]
+pub struct Reading {
+    pub item: Record,
+    pub place: usize,
+    pub number: u32,
+}
+
+/// What a replay gives: the state, number and count, and how many bytes of the listing were written.
+#[repr(C)]
+#[derive(Clone, Copy, Debug, Default, PartialEq, Eq)]
+pub struct Replayed {
+    pub outcome: Outcome,
+    pub written: usize,
+}
+
+/// As many bytes always suffice for the listing of a replay.
+pub const LISTING_BYTES: usize = 69_198;
+
+/// Every register and flag zero.
+pub fn power_up() -> State {
+    unsafe { raw::ofersky_power_up() }
+}
+
+/// Whether the calls accept a state.
+pub fn is_sound(state: State) -> bool {
+    unsafe { raw::ofersky_is_sound(state) }
+}
+
+/// Reads a register. Refusals: 4, 5.
+pub fn read_register(state: State, address: u32) -> Outcome {
+    unsafe { raw::ofersky_read_register(state, address) }
+}
+
+/// Writes a register. Refusals: 4, 5.
+pub fn write_register(state: State, address: u32, value: u32) -> Outcome {
+    unsafe { raw::ofersky_write_register(state, address, value) }
+}
+
+/// Adds to the clock and the busy counters. Refusal: 4.
+pub fn tick(state: State, n: u32) -> Outcome {
+    unsafe { raw::ofersky_tick(state, n) }
+}
+
+/// The SP meets a BREAK. Refusal: 4.
+pub fn sp_break(state: State) -> Outcome {
+    unsafe { raw::ofersky_sp_break(state) }
+}
+
+/// The DP interrupt is acknowledged. Refusal: 4.
+pub fn acknowledge(state: State) -> Outcome {
+    unsafe { raw::ofersky_acknowledge(state) }
+}
+
+/// One SP turn. Refusals: 1, 2, 3, 4.
+pub fn sp_turn(state: State, rdram: &mut [u8], dmem: &mut [u8], imem: &mut [u8]) -> Outcome {
+    let [r, d, i] = [rdram, dmem, imem].map(lent);
+    unsafe { raw::ofersky_sp_turn(state, r.0, r.1, d.0, d.1, i.0, i.1) }
+}
+
+/// SP turns until the budget is used or the engine is idle. Refusals: 1, 2, 3, 4.
+pub fn sp_run(
+    state: State,
+    budget: u32,
+    rdram: &mut [u8],
+    dmem: &mut [u8],
+    imem: &mut [u8],
+) -> Outcome {
+    let [r, d, i] = [rdram, dmem, imem].map(lent);
+    unsafe { raw::ofersky_sp_run(state, budget, r.0, r.1, d.0, d.1, i.0, i.1) }
+}
+
+/// One DP turn; its value is the word fetched. Refusals: 1, 2, 4.
+pub fn dp_turn(state: State, rdram: &[u8], dmem: &[u8]) -> Outcome {
+    let [r, d] = [rdram, dmem].map(shared);
+    unsafe { raw::ofersky_dp_turn(state, r.0, r.1, d.0, d.1) }
+}
+
+/// DP turns until the budget is used, nothing is fetched or `out` is full. Refusals: 1, 2, 4.
+pub fn dp_run(state: State, budget: u32, rdram: &[u8], dmem: &[u8], out: &mut [u8]) -> Outcome {
+    let [r, d] = [rdram, dmem].map(shared);
+    let o = lent(out);
+    unsafe { raw::ofersky_dp_run(state, budget, r.0, r.1, d.0, d.1, o.0, o.1) }
+}
+
+/// Where the eight bytes stand that the next DP turn would hand out, or an empty part.
+pub fn look_ahead(state: State, rdram: &[u8], dmem: &[u8]) -> Part {
+    let [r, d] = [rdram, dmem].map(shared);
+    unsafe { raw::ofersky_look_ahead(state, r.0, r.1, d.0, d.1) }
+}
+
+/// Those bytes.
+pub fn next_word<'a>(state: State, rdram: &'a [u8], dmem: &'a [u8]) -> &'a [u8] {
+    let part = look_ahead(state, rdram, dmem);
+    let memory = if part.memory == 0 { rdram } else { dmem };
+    &memory[part.offset as usize..][..part.length as usize]
+}
+
+/// The record at a place of a recording, and the place after it. Refusals: 9, 7, 8, 5, 6.
+pub fn read_record(recording: &[u8], place: usize) -> Reading {
+    let r = shared(recording);
+    unsafe { raw::ofersky_read_record(r.0, r.1, place) }
+}
+
+/// Replays a recording and writes its listing to `out`. Refusals: 9, 1, 2, 3, 4, and those of its records: 7, 8, 5, 6.
+pub fn replay(
+    state: State,
+    recording: &[u8],
+    rdram: &mut [u8],
+    dmem: &mut [u8],
+    imem: &mut [u8],
+    out: &mut [u8],
+) -> Replayed {
+    let s = shared(recording);
+    let [r, d, i, o] = [rdram, dmem, imem, out].map(lent);
+    unsafe { raw::ofersky_replay(state, s.0, s.1, r.0, r.1, d.0, d.1, i.0, i.1, o.0, o.1) }
+}
+
+/// A slice as C takes it.
+fn shared(bytes: &[u8]) -> (*const u8, usize) {
+    (bytes.as_ptr(), bytes.len())
+}
+
+fn lent(bytes: &mut [u8]) -> (*mut u8, usize) {
+    (bytes.as_mut_ptr(), bytes.len())
+}
