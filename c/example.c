@@ -1,4 +1,4 @@
-/* Loads two words to the end of IMEM, where the second wraps to its start, and then replays the same traffic as a recording.
+/* Loads two words to the end of IMEM, where the second wraps to its start; then writes the same traffic as a recording and replays it.
  *
  *     rt staticlib ofersky
  *     cc -I c c/example.c target/staticlib/libofersky.a -o example && ./example
@@ -29,11 +29,21 @@ static void calls(void) {
 }
 
 static void recording(void) {
-    static const uint8_t bytes[] = {1, 4, 4, 0, 0, 0, 0, 0x1F, 0xF8, 1, 4, 4, 0, 8, 0, 0, 0, 0x0F,
-                                    3, 0, 0, 0, 2, 2, 4,    4,    0, 0, 0, 0, 0x10, 8};
-    static uint8_t listing[OFERSKY_LISTING_BYTES];
-    ofersky_replayed done = ofersky_replay(ofersky_power_up(), bytes, sizeof bytes, rdram, sizeof rdram, dmem, sizeof dmem, imem, sizeof imem,
-                                           listing, sizeof listing);
+    static const ofersky_record records[] = {
+        {.kind = 1, .address = 0x04040000, .value = 0x1FF8},
+        {.kind = 1, .address = 0x04040008, .value = 0x0F},
+        {.kind = 3, .value = 2},
+        {.kind = 2, .address = 0x04040000, .value = 0x1008}, /* the SPADDR that is expected */
+    };
+    static uint8_t bytes[32], listing[OFERSKY_LISTING_BYTES];
+    size_t place = 0;
+    for (int i = 0; i < 4; i++) {
+        ofersky_answer a = ofersky_write_record(records[i], bytes, sizeof bytes, place);
+        if (a.number != 0) printf("record %d: refused by %u\n", i, a.number);
+        place = a.value;
+    }
+    ofersky_replayed done = ofersky_replay(ofersky_power_up(), bytes, place, rdram, sizeof rdram, dmem, sizeof dmem, imem, sizeof imem, listing,
+                                           sizeof listing);
     fwrite(listing, 1, done.written, stdout);
 }
 

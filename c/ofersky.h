@@ -11,6 +11,7 @@
  *   2 DMEM not 4,096 bytes               7 unknown record kind
  *   3 IMEM not 4,096 bytes               8 record cut short
  *   4 state not sound                    9 recording longer than 16,383 bytes
+ *                                       14 record does not fit
  */
 #ifndef OFERSKY_H
 #define OFERSKY_H
@@ -69,7 +70,8 @@ typedef struct {
     uint32_t memory, offset, length;
 } ofersky_part;
 
-/* A record. The value is the second field of kinds 1, 2, 8 and 9, and the only one of kinds 3, 4 and 5; a field that a kind does not have is 0. */
+/* A record. The value is the second field of kinds 1, 2, 8 and 9, and the only one of kinds 3, 4 and 5. A field that a kind does not have is 0 in a
+ * record that is read, and plays no part in one that is written. */
 typedef struct {
     uint64_t value;
     uint32_t address;
@@ -117,6 +119,11 @@ ofersky_part ofersky_look_ahead(ofersky_state s, const uint8_t *rdram, size_t rd
 
 /* The record at a place of a recording. Refusals: 9, 7, 8, 5, 6. */
 ofersky_reading ofersky_read_record(const uint8_t *recording, size_t recording_bytes, size_t place);
+
+/* Appends a record to a buffer from a place on, where the reader finds it again; the value is the place after it, and no other byte differs. Fields that
+ * the kind does not have play no part, nor does the upper half of the value in kinds 1 to 5. Refusals: 7, 5, 6; then 14, where the record would
+ * end past the buffer or past 16,383 bytes. */
+ofersky_answer ofersky_write_record(ofersky_record item, uint8_t *buffer, size_t buffer_bytes, size_t place);
 
 /* Replays a recording and writes its listing to out. Refusals: 9, 1, 2, 3, 4 before the first record; then its records': 7, 8, 5, 6. */
 ofersky_replayed ofersky_replay(ofersky_state s, const uint8_t *recording, size_t recording_bytes, uint8_t *rdram, size_t rdram_bytes,

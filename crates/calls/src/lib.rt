@@ -1,5 +1,5 @@
-// Every public call, in one place. Each takes every input; what it promises is in machine/specs/Promised.antt, that of the reader in
-// recording/specs/Reader.antt, and that of a replay in playback/specs/Promised.antt.
+// Every public call, in one place. Each takes every input; what it promises is in machine/specs/Promised.antt, those of the
+// reader and the writer in recording/specs (Reader.antt, Fields.antt, Writer.antt), and that of a replay in playback/specs/Promised.antt.
 pub use access::acknowledge;
 pub use access::read_register;
 pub use access::sp_break;
@@ -14,3 +14,5 @@ pub use engines::sp_run;
 pub use engines::sp_turn;
 pub use player::replay;
 pub use reader::read_record;
+pub use writer::fields_of;
+pub use writer::write_record;

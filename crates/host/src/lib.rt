@@ -1,5 +1,6 @@
 // The calls as host programs see them: structs of numbers and bytes that C and Rust can lay out. The definitions are in specs/; `ofersky` has the code.
 use machine::Answer;
+use recording::Fields;
 
 // The registers of the SP engine. A flag is a byte, 0 or 1; any other byte makes the state unsound.
 #[repr(C)]
@@ -69,17 +70,10 @@ pub struct HostPart {
     pub length: u32,
 }
 
-// A record by its kind. The value is the second field of kinds 1, 2, 8 and 9, and the only one of kinds 3, 4 and 5.
-#[repr(C)]
-pub struct HostRecord {
-    pub value: u64,
-    pub address: u32,
-    pub kind: u8,
-}
-
+// What the reader answers, with the record by its kind and fields.
 #[repr(C)]
 pub struct HostReading {
-    pub item: HostRecord,
+    pub item: Fields,
     pub place: usize,
     pub number: u32,
 }

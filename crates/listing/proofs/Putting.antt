@@ -3,20 +3,17 @@ use Prim.Native.Nat.{ℕ, suc, _+_, _≤_, _<_, min}
 use mathlib.Core.Path.{_≡_, refl, sym, ap, _∙_}
 use mathlib.Core.Bool.{Bool, true, false}
 use mathlib.Core.List.{List, [], _∷_, _++_}
-use native.Mathlib.Nat.{add-zero, add-suc, suc-add}
+use native.Mathlib.Nat.{add-zero}
 use native.Mathlib.Numerals.{add-one}
 use native.Mathlib.Omega.{arith}
 use lib.Dec.{leb}
 use lib.ListN.{length, set, getD, take, drop, length-append}
 use lib.Seq.{sets, length-sets, set-out, take-suc, take-all, take-append-seam, drop-append-seam, drop-nil}
 use borrow.Author.Tests.{leb-true, leb-false}
+use Rattle.words.proofs.Bytes.{sets-append}
 use Rattle.listing.specs.Put.{Put}
 
 -- ---- A run of stores
-
-sets-append : (d : List ℕ) (i : ℕ) (s t : List ℕ) → sets d i (s ++ t) ≡ sets (sets d i s) (i + length s) t
-sets-append d i [] t = rw add-zero refl
-sets-append d i (a ∷ s) t = rw (add-suc, ← suc-add) (sets-append (set d i a) (suc i) s t)
 
 -- At or past the end there is no room for a byte
 sets-past : (d : List ℕ) (i : ℕ) (t : List ℕ) → length d ≤ i → sets d i t ≡ d

@@ -1,45 +1,19 @@
-// The reader and the replay.
+// The reader, the writer and the replay.
 use crate::states::decoded;
 use crate::states::handed;
 use host::HostReading;
-use host::HostRecord;
 use host::HostReplayed;
 use host::HostState;
-use recording::Record;
+use machine::Answer;
+use recording::Fields;
+use writer::fields_of;
 ghost use mathlib.Core.Path.{_≡_};
 ghost use Rattle.words.specs.Memory.{memory};
 ghost use Rattle.recording.specs.Reader.{readRecord};
+ghost use Rattle.recording.specs.Writer.{WriteRecordGives};
 ghost use Rattle.host.specs.States.{decoded, handed};
-ghost use Rattle.host.specs.Records.{ofKind, recordHanded, readingHanded};
+ghost use Rattle.host.specs.Records.{readingHanded};
 ghost use Rattle.host.specs.Promised.{HostReplayGives};
-
-fn of_kind(kind: u8, address: u32, value: u64) -> HostRecord
-    ensures { λ r. ⌜ r ≡ ofKind kind address value ⌝ }
-{
-    HostRecord {
-        value,
-        address,
-        kind,
-    }
-}
-
-// A record by its kind and fields; a field that its kind does not have is 0.
-fn record_handed(item: Record) -> HostRecord
-    ensures { λ r. ⌜ r ≡ recordHanded item ⌝ }
-{
-    match item {
-        Record::None => of_kind(0, 0, 0),
-        Record::Write(a, v) => of_kind(1, a, v as u64),
-        Record::Read(a, v) => of_kind(2, a, v as u64),
-        Record::SpRun(budget) => of_kind(3, 0, budget as u64),
-        Record::DpRun(budget) => of_kind(4, 0, budget as u64),
-        Record::Tick(n) => of_kind(5, 0, n as u64),
-        Record::Break => of_kind(6, 0, 0),
-        Record::Acknowledge => of_kind(7, 0, 0),
-        Record::Store(a, word) => of_kind(8, a, word),
-        Record::Check(a, word) => of_kind(9, a, word),
-    }
-}
 
 #[no_mangle]
 pub extern "C" fn ofersky_read_record(recording: &[u8], place: usize) -> HostReading
@@ -48,12 +22,19 @@ pub extern "C" fn ofersky_read_record(recording: &[u8], place: usize) -> HostRea
 {
     let done = reader::read_record(recording, place);
     let found = done.item;
-    let item = record_handed(found);
+    let item = fields_of(found);
     HostReading {
         item,
         place: done.place,
         number: done.number,
     }
+}
+
+#[no_mangle]
+pub extern "C" fn ofersky_write_record(item: Fields, buffer: &mut [u8], place: usize) -> Answer
+    ensures { λ r. ⌜ WriteRecordGives item place (now (buffer .entry)) r (now (buffer .exit)) ⌝ }
+{
+    writer::write_record(item, buffer, place)
 }
 
 #[no_mangle]

@@ -1,6 +1,7 @@
--- The whole case of paper 01, and the case that stops, by computation.
+-- The whole case of paper 01, the case that stops, and the first one's recording as the writer makes it, by computation.
 use mathlib.Core.Path.{_≡_, refl}
 use mathlib.Core.List.{[], _∷_}
+use native.Mathlib.Omega.{arith}
 use lib.ListN.{replicate}
 use Rattle.words.specs.Memory.{memory, bytesAt, loadWord, storeWord, wordValue, wordBytes}
 use Rattle.sp.specs.Transfer.{started, lengthWritten, nextWord, ended}
@@ -14,9 +15,14 @@ use Rattle.machine.specs.Refusals.{accessRefusal, spRefusal, dpRefusal}
 use Rattle.machine.specs.Calls.{readRegister, writeRegister}
 use Rattle.machine.specs.Runs.{spRun, dpRun}
 use Rattle.laws.specs.World.{world}
+use Rattle.recording.specs.declared.Record.the-variants.{Write, Read, SpRun}
 use Rattle.recording.specs.Kinds.{decoded, recordOf}
+use Rattle.recording.specs.Fields.{ofKind, recordBy}
 use Rattle.recording.specs.Reader.{recordNumber}
+use Rattle.recording.specs.Writer.{writeNumber, writeAnswer, writeBuffer}
 use Rattle.recording.specs.Split.{splitFrom}
+use Rattle.recording.specs.Written.{Appends}
+use Rattle.recording.specs.Written.Appends.{none, adds}
 use Rattle.listing.specs.Text.{hex, leading, decimal, runLine, verdict, foundLine, endLine, stopLine}
 use Rattle.playback.specs.Effects.{loadAt, storeAt, after, line}
 use Rattle.playback.specs.Replay.{lines, replayRefusal, replay}
@@ -44,3 +50,13 @@ unfolding stopBytes start stopText replay replayRefusal spRefusal dpRefusal soun
     dpRun dpTaken dpAfter
     runLine foundLine verdict hex decimal leading stopLine
 stop-case = (refl, refl, refl)
+
+-- The writer makes the case's recording of its four records, in a buffer that has just as many bytes
+pub case-appended : Appends (replicate 32 0) 0 (Write 0x04040000 0x1FF8 ∷ Write 0x04040008 0x0F ∷ SpRun 2 ∷ Read 0x04040000 0x1008 ∷ []) bytes 32
+unfolding bytes writeAnswer writeBuffer writeNumber recordBy decoded registerAt
+case-appended =
+    adds {f = ofKind 1 0x04040000 0x1FF8} (omega arith) (record { answer = refl; bytes = refl }) refl
+    (adds {f = ofKind 1 0x04040008 0x0F} (omega arith) (record { answer = refl; bytes = refl }) refl
+    (adds {f = ofKind 3 0 2} (omega arith) (record { answer = refl; bytes = refl }) refl
+    (adds {f = ofKind 2 0x04040000 0x1008} (omega arith) (record { answer = refl; bytes = refl }) refl
+    none)))

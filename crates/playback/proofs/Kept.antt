@@ -1,5 +1,5 @@
 -- Stores and checks of memory: the word stored is found, every other word is as before, and past the lent length nothing is stored.
-use Prim.Native.Nat.{ℕ, _+_, _*_, _/_, _%_, _≤_, _<_}
+use Prim.Native.Nat.{ℕ, _+_, _/_, _%_, _≤_, _<_}
 use mathlib.Core.Path.{_≡_, refl, sym, ap, _∙_}
 use mathlib.Core.Bool.{Bool, true, false, _&&_, _||_}
 use mathlib.Core.List.{List}
@@ -9,21 +9,18 @@ use lib.Dec.{ltb, leb, eqb}
 use lib.ListN.{length}
 use lib.Seq.{ext-getD}
 use borrow.Author.Tests.{ltb-true, ltb-false, leb-true, leb-false, le-leb, eqb-true}
-use Rattle.words.specs.Memory.{Memory, Place, RDRAM, DMEM, IMEM, bytesOf, withBytes, fitted, bytesAt, loadWord, storeWord, lowByte, wordValue, wordBytes}
+use Rattle.words.specs.Memory.{Memory, Place, RDRAM, DMEM, IMEM, bytesOf, withBytes, fitted, bytesAt, loadWord, storeWord, wordValue, wordBytes}
 use Rattle.words.proofs.Tests.{by, contradiction, and-true}
 use Rattle.words.proofs.Bytes.{bytes-length, bytes-at, load-past, store-past, store-length, store-inside, store-outside, with-same, with-place}
 use Rattle.laws.specs.World.{World}
 use Rattle.recording.specs.declared.Record.{Record}
 use Rattle.recording.specs.declared.Record.the-variants.{None, Write, Read, SpRun, DpRun, Tick, Break, Acknowledge, Store, Check}
 use Rattle.recording.specs.Reader.{memoryAllowed}
+use Rattle.recording.proofs.Bytes.{next-byte}
 use Rattle.playback.specs.Effects.{placeAt, offsetAt, loadAt, storeAt, after}
 use Rattle.playback.specs.Stores.{fittedAt, Stores, Edges, keepsMemory, LeftAlone}
 
 -- ---- The bytes of a number
-
--- One byte more: q stands for the bytes before it
-next-byte : (a q n : ℕ) → a ≡ q → n ≡ q * 256 + n % 256 → a * 256 + lowByte n ≡ n
-next-byte a q n e h = omega arith
 
 -- The bytes of a word have its value
 pub value-of-bytes : (v : ℕ) → v < 0x10000000000000000 → wordValue (wordBytes v) ≡ v

@@ -3,4 +3,5 @@ pub mod Sounds
 pub mod Steps
 pub mod Room
 pub mod Replaying
+pub mod Appended
 pub mod Case

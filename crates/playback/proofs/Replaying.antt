@@ -16,6 +16,7 @@ use Rattle.machine.specs.Sound.{sound}
 use Rattle.machine.specs.Refusals.{rdramAllowed, bankAllowed, spRefusal, declined}
 use Rattle.laws.specs.World.{World, world}
 use Rattle.recording.specs.declared.Record.{Record}
+use Rattle.recording.specs.Kinds.{Bytes}
 use Rattle.recording.specs.Reader.{longest}
 use Rattle.recording.specs.Split.{split}
 use Rattle.recording.proofs.Numbers.{small}
@@ -24,7 +25,7 @@ use Rattle.listing.specs.Text.{header, stopLine}
 use Rattle.playback.specs.declared.Replayed.{Replayed}
 use Rattle.playback.specs.Replay.{Played, afterAll, ending, replayRefusal, replay}
 use Rattle.playback.specs.Promised.{ReplayGives}
-use Rattle.playback.specs.Theorems.{SameLeft, Begun, longestListing, Bytes, EveryReplay}
+use Rattle.playback.specs.Theorems.{SameLeft, Begun, longestListing, EveryReplay}
 use Rattle.playback.proofs.Steps.{short-enough, replay-begun, replay-not}
 use Rattle.playback.proofs.Room.{listing-size}
 use Rattle.playback.proofs.Sounds.{items-accepted, all-keep-sound, all-keep-lengths, all-succeed}
@@ -40,7 +41,7 @@ sp-at-most s m =
     (small (bankAllowed (length (m .imem))) 3 _ (omega arith)
     (small (sound s) 4 0 (omega arith) (omega arith))))
 
-refusal-short : (s : List ℕ) (w : World) → length s ≤ longest → replayRefusal s w ≡ spRefusal (w .state) (w .memory)
+pub refusal-short : (s : List ℕ) (w : World) → length s ≤ longest → replayRefusal s w ≡ spRefusal (w .state) (w .memory)
 unfolding replayRefusal
 refusal-short s w h = rw (le-leb (length s) longest h)
 
@@ -77,11 +78,11 @@ module _ (state : State) (s : List ℕ) (m : Memory) (d : List ℕ) (r : Replaye
       )
 
   -- One that begins
-  begun-outcome : replayRefusal s (world state m) ≡ 0
+  pub begun-outcome : replayRefusal s (world state m) ≡ 0
       → r .outcome ≡ ending (afterAll (split s .items) (world state m) .state) (split s .number) (length (split s .items))
   begun-outcome z = g .outcome ∙ ap (λ (x : Played). x .outcome) (replay-begun s (world state m) z)
 
-  begun-memory : replayRefusal s (world state m) ≡ 0 → m′ ≡ afterAll (split s .items) (world state m) .memory
+  pub begun-memory : replayRefusal s (world state m) ≡ 0 → m′ ≡ afterAll (split s .items) (world state m) .memory
   begun-memory z = g .bytes ∙ ap (λ (x : Played). x .memory) (replay-begun s (world state m) z)
 
   -- The number of a short recording's replay

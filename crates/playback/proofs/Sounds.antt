@@ -21,8 +21,9 @@ use Rattle.laws.proofs.Answers.{sp-alike}
 use Rattle.recording.specs.declared.Record.{Record}
 use Rattle.recording.specs.declared.Record.the-variants.{None, Write, Read, SpRun, DpRun, Tick, Break, Acknowledge, Store, Check}
 use Rattle.recording.specs.Kinds.{bodySize, recordOf}
+use Rattle.recording.specs.Fields.{Fits}
 use Rattle.recording.specs.Reader.{registerNumber, addressNumber, recordNumber}
-use Rattle.recording.specs.Split.{Split, stops, precedes, splitFrom, split, Fits, AllFit}
+use Rattle.recording.specs.Split.{Split, stops, precedes, splitFrom, split, AllFit}
 use Rattle.recording.proofs.Accepted.{accepted-address}
 use Rattle.playback.specs.Effects.{placeAt, offsetAt, storeAt, room, after}
 use Rattle.playback.specs.Replay.{afterAll}
@@ -55,7 +56,7 @@ items-accepted s = from-accepted 0 s
 pub keeps-sound : (r : Record) (w : World) → Fits r → sound (w .state) ≡ true → sound (after r w .state) ≡ true
 unfolding after
 keeps-sound None w f e = e
-keeps-sound (Write a v) w f e = calls-keep-sound (w .state) e .write a v f
+keeps-sound (Write a v) w f e = calls-keep-sound (w .state) e .write a v (f .1)
 keeps-sound (Read a v) w f e = calls-keep-sound (w .state) e .read a
 keeps-sound (SpRun budget) w f e = calls-keep-sound (w .state) e .spRun budget (w .memory)
 keeps-sound (DpRun budget) w f e = calls-keep-sound (w .state) e .dpRun budget (w .memory .rdram) (w .memory .dmem) room

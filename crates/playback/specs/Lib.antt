@@ -3,4 +3,5 @@ pub mod Stores
 pub mod Replay
 pub mod Promised
 pub mod Theorems
+pub mod Appended
 pub mod Case

@@ -1,10 +1,10 @@
 -- The theorems of a replay, of whatever code meets its promise (ReplayGives).
-use Prim.Native.Nat.{ℕ, suc, _<_, _≤_}
+use Prim.Native.Nat.{ℕ, suc, _≤_}
 use mathlib.Core.Path.{_≡_}
 use mathlib.Core.Bool.{true}
 use mathlib.Core.List.{List, [], _∷_, _++_}
 use lib.Dec.{ltb, eqb}
-use lib.ListN.{length, getD, take, drop}
+use lib.ListN.{length, take, drop}
 use Rattle.words.specs.Memory.{Memory, Place, bytesOf}
 use Rattle.machine.specs.declared.State.{State}
 use Rattle.machine.specs.Sound.{sound}
@@ -14,6 +14,7 @@ use Rattle.machine.specs.Runs.{spRun}
 use Rattle.laws.specs.World.{World, world}
 use Rattle.recording.specs.declared.Record.{Record}
 use Rattle.recording.specs.declared.Record.the-variants.{None, Write, Read, SpRun, DpRun, Tick, Break, Acknowledge, Store, Check}
+use Rattle.recording.specs.Kinds.{Bytes}
 use Rattle.recording.specs.Split.{ReadOn}
 use Rattle.listing.specs.Text.{header, stopLine}
 use Rattle.playback.specs.declared.Replayed.{Replayed}
@@ -85,10 +86,6 @@ pub record ReplayGiven (state : State) (s : List ℕ) (m : Memory) (d : List ℕ
   pub size : length (replay s (world state m) .text) ≤ longestListing
   pub whole : longestListing ≤ length d
       → (take (r .written) d′ ≡ replay s (world state m) .text) × (drop (r .written) d′ ≡ drop (r .written) d)
-
--- A recording is a list of bytes
-abbrev pub Bytes : List ℕ → Type 0
-Bytes s = (i : ℕ) → getD s i 0 < 256
 
 -- It holds of every replay
 abbrev pub EveryReplay : Type 0

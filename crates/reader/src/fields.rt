@@ -19,14 +19,14 @@ fn joined(a: u8, b: u8, c: u8, d: u8) -> u32
     ((a as u32 * 256 + b as u32) * 256 + c as u32) * 256 + d as u32
 }
 
-pub(crate) fn is_kind(kind: u8) -> bool
+pub fn is_kind(kind: u8) -> bool
     ensures { λ r. ⌜ r ≡ isKind kind ⌝ }
 {
     (1 <= kind) & (kind <= 9)
 }
 
 // How many bytes a record takes: its kind and its body.
-pub(crate) fn size(kind: u8) -> usize
+pub fn size(kind: u8) -> usize
     ensures { λ r. ⌜ r ≡ size kind ⌝ }
 {
     let k = kind as usize;
@@ -34,7 +34,7 @@ pub(crate) fn size(kind: u8) -> usize
 }
 
 // The record of a kind, where a is the first four bytes of its body, v the four after them, and w the eight after the first four.
-fn decoded(kind: u8, a: u32, v: u32, w: u64) -> Record
+pub fn decoded(kind: u8, a: u32, v: u32, w: u64) -> Record
     ensures { λ r. ⌜ r ≡ decoded kind a v w ⌝ }
 {
     match kind {

@@ -31,7 +31,7 @@ fn memory_number(a: u32) -> u32
 }
 
 // The number of the check of a record's address; 0 for a record that has none.
-fn address_number(item: Record) -> u32
+pub fn address_number(item: Record) -> u32
     ensures { λ r. ⌜ r ≡ addressNumber item ⌝ }
 {
     match item {

@@ -46,7 +46,7 @@ body-at-most (suc (suc (suc (suc (suc (suc (suc (suc (suc (suc kind)))))))))) = 
 -- ---- What the number 0 says of the bytes
 
 -- A check whose number is not 0 gives 0 only where it holds and the later checks give 0
-passed : (ok : Bool) (n later : ℕ) → check ok (suc n) later ≡ 0 → (ok ≡ true) × (later ≡ 0)
+pub passed : (ok : Bool) (n later : ℕ) → check ok (suc n) later ≡ 0 → (ok ≡ true) × (later ≡ 0)
 passed true n later e = (refl, e)
 passed false n later e = let z : suc n ≡ 0 = e in absurd (omega arith)
 

@@ -1,4 +1,10 @@
 pub mod Accepted
+pub mod Named
+pub mod Agreeing
+pub mod Bytes
 pub mod Numbers
 pub mod Splitting
+pub mod Writing
+pub mod Rewriting
+pub mod Appending
 pub mod Samples

@@ -14,9 +14,9 @@ use Rattle.machine.specs.Refusals.{check, isRegister, ifRefused}
 use Rattle.recording.specs.declared.Record.{Record}
 use Rattle.recording.specs.declared.Record.the-variants.{None, Write, Read, SpRun, DpRun, Tick, Break, Acknowledge, Store, Check}
 use Rattle.recording.specs.declared.Reading.{Reading}
-use Rattle.recording.specs.Kinds.{four, eight, isKind, size, kindOf, decoded, recordOf}
+use Rattle.recording.specs.Kinds.{four, eight, isKind, accesses, storesOrChecks, size, kindOf, decoded, recordOf}
 use Rattle.recording.specs.Reader.{memoryAllowed, addressNumber, recordNumber, refused, found, first, shifted, longest, readRecord}
-use Rattle.recording.specs.Split.{accesses, storesOrChecks, RecordGiven, LengthGiven}
+use Rattle.recording.specs.Split.{RecordGiven, LengthGiven}
 use Rattle.recording.proofs.Accepted.{first-number}
 
 -- ---- The addresses that kinds 8 and 9 may name, at their edges
@@ -32,7 +32,7 @@ memory-edges = (refl, refl, refl, refl, refl, refl)
 -- ---- The number of a record
 
 -- No kind names both a register and a memory address
-one-address : (k : ℕ) → accesses k && storesOrChecks k ≡ false
+pub one-address : (k : ℕ) → accesses k && storesOrChecks k ≡ false
 one-address zero = refl
 one-address (suc zero) = refl
 one-address (suc (suc zero)) = refl
@@ -40,7 +40,7 @@ one-address (suc (suc (suc k))) =
     rw (ne-eqb (suc (suc (suc k))) 1 (λ e. absurd (omega arith)), ne-eqb (suc (suc (suc k))) 2 (λ e. absurd (omega arith)))
 
 -- The checks of an address, by the kind alone
-address-number : (k a v w : ℕ)
+pub address-number : (k a v w : ℕ)
     → addressNumber (decoded k a v w)
     ≡ check (implies (accesses k) (isRegister (registerAt a))) 5 (check (implies (storesOrChecks k) (memoryAllowed a)) 6 0)
 unfolding decoded

@@ -1,5 +1,5 @@
 -- A recording is split as the reader reads it, one record after another.
-use Prim.Native.Nat.{ℕ, zero, suc, _+_, _-_, _*_, _<_, _≤_, min}
+use Prim.Native.Nat.{ℕ, zero, suc, _+_, _-_, _*_, _<_, _≤_}
 use mathlib.Core.Path.{_≡_, refl, sym, ap, _∙_}
 use mathlib.Core.Bool.{Bool, cond}
 use mathlib.Core.List.{List, [], _∷_}
@@ -7,19 +7,23 @@ use native.Mathlib.Omega.{arith}
 use native.Mathlib.Nat.{zero-sub, sub-zero, suc-sub-suc}
 use native.Mathlib.Numerals.{one-add}
 use lib.Dec.{ltb}
-use lib.ListN.{length, getD, take, drop, length-drop, length-take}
+use lib.ListN.{length, take, drop, length-drop, length-take}
 use lib.Seq.{drop-drop, getD-take, length-take-le, take-nil}
-use borrow.Author.Tests.{ltb-true, ltb-false, le-ltb, le-leb, lt-ltb}
+use borrow.Author.Tests.{ltb-true, ltb-false, le-ltb, lt-ltb}
 use Rattle.words.proofs.Tests.{by}
 use Rattle.machine.specs.Refusals.{ifRefused}
 use Rattle.machine.proofs.Refusals.{if-accepted, if-refused}
 use Rattle.recording.specs.declared.Record.{Record}
 use Rattle.recording.specs.declared.Reading.{Reading}
-use Rattle.recording.specs.Kinds.{byte, joined, four, eight, bodySize, size, decoded, kindOf, recordOf}
+use Rattle.recording.specs.Kinds.{Bytes, byte, four, eight, bodySize, size, kindOf, recordOf}
+use Rattle.recording.specs.Fields.{Fits}
 use Rattle.recording.specs.Reader.{recordNumber, found, first, longest, readRecord}
-use Rattle.recording.specs.Split.{Split, stops, precedes, splitFrom, split, ReadOn, Fits, AllFit}
+use Rattle.recording.specs.Split.{Split, stops, precedes, splitFrom, split, ReadOn, AllFit}
 use Rattle.recording.specs.Split.ReadOn.{atEnd, declines, reads}
-use Rattle.recording.proofs.Accepted.{accepted-kind, accepted-whole, accepted-address}
+use Rattle.recording.proofs.Accepted.{accepted-whole}
+use Rattle.recording.proofs.Named.{decoded-fits}
+use Rattle.recording.proofs.Agreeing.{agreeing-kind, agreeing-record, agreeing-number}
+use Rattle.recording.proofs.Bytes.{four-fits}
 use Rattle.recording.proofs.Numbers.{read-number, declined-reading, record-at-most}
 
 -- ---- The records of bytes
@@ -36,7 +40,7 @@ unfolding splitFrom
 split-empty [] h = refl
 split-empty (b ∷ s) h = absurd (omega arith)
 
-split-accepted : (s : List ℕ) → recordNumber s ≡ 0 → split s ≡ precedes (recordOf s) (split (drop (size (kindOf s)) s))
+pub split-accepted : (s : List ℕ) → recordNumber s ≡ 0 → split s ≡ precedes (recordOf s) (split (drop (size (kindOf s)) s))
 unfolding splitFrom
 split-accepted [] e = absurd (omega (arith, accepted-whole [] e))
 split-accepted (b ∷ s) e =
@@ -50,10 +54,10 @@ split-declined (b ∷ s) n h e = if-refused (recordNumber (b ∷ s)) _ _ (λ z. 
 
 -- ---- The reader
 
-short : (s : List ℕ) (at : ℕ) → length s ≤ longest → readRecord s at .number ≡ recordNumber (drop at s)
+pub short : (s : List ℕ) (at : ℕ) → length s ≤ longest → readRecord s at .number ≡ recordNumber (drop at s)
 short s at h = read-number s at ∙ ap (λ (b : Bool). cond b 9 (recordNumber (drop at s))) (le-ltb longest (length s) h)
 
-read-accepted : (s : List ℕ) (at : ℕ) → length s ≤ longest → recordNumber (drop at s) ≡ 0
+pub read-accepted : (s : List ℕ) (at : ℕ) → length s ≤ longest → recordNumber (drop at s) ≡ 0
     → readRecord s at ≡ found (recordOf (drop at s)) (at + size (kindOf (drop at s)))
 unfolding readRecord first
 read-accepted s at h e = rw (le-ltb longest (length s) h, e)
@@ -160,52 +164,24 @@ reader-alone s rs rs′ last last′ n n′ x y = same-parts refl x y
 
 -- ---- The accepted records alone
 
--- The record of a kind by the bytes that it has
-same-decoded : (k a v w a′ v′ w′ : ℕ) → (5 ≤ size k → a ≡ a′) → (9 ≤ size k → v ≡ v′) → (13 ≤ size k → w ≡ w′)
-    → decoded k a v w ≡ decoded k a′ v′ w′
-unfolding decoded
-same-decoded zero a v w a′ v′ w′ ea ev ew = refl
-same-decoded (suc zero) a v w a′ v′ w′ ea ev ew = rw (ea (omega arith), ev (omega arith))
-same-decoded (suc (suc zero)) a v w a′ v′ w′ ea ev ew = rw (ea (omega arith), ev (omega arith))
-same-decoded (suc (suc (suc zero))) a v w a′ v′ w′ ea ev ew = rw (ea (omega arith))
-same-decoded (suc (suc (suc (suc zero)))) a v w a′ v′ w′ ea ev ew = rw (ea (omega arith))
-same-decoded (suc (suc (suc (suc (suc zero))))) a v w a′ v′ w′ ea ev ew = rw (ea (omega arith))
-same-decoded (suc (suc (suc (suc (suc (suc zero)))))) a v w a′ v′ w′ ea ev ew = refl
-same-decoded (suc (suc (suc (suc (suc (suc (suc zero))))))) a v w a′ v′ w′ ea ev ew = refl
-same-decoded (suc (suc (suc (suc (suc (suc (suc (suc zero)))))))) a v w a′ v′ w′ ea ev ew = rw (ea (omega arith), ew (omega arith))
-same-decoded (suc (suc (suc (suc (suc (suc (suc (suc (suc zero))))))))) a v w a′ v′ w′ ea ev ew = rw (ea (omega arith), ew (omega arith))
-same-decoded (suc (suc (suc (suc (suc (suc (suc (suc (suc (suc k)))))))))) a v w a′ v′ w′ ea ev ew = refl
-
 -- The first m bytes of a list that begins with an accepted record, which is in them
 module _ (m : ℕ) (u : List ℕ) (e : recordNumber u ≡ 0) (b : size (kindOf u) ≤ m) where
-  cut-byte : (i : ℕ) → i < m → byte (take m u) i ≡ byte u i
-  cut-byte i h = getD-take m u i 0 h
+  cut-there : size (kindOf u) ≤ length (take m u)
+  cut-there = omega (arith, accepted-whole u e, length-take m u)
 
-  cut-four : (i : ℕ) → i + 3 < m → four (take m u) i ≡ four u i
-  cut-four i h =
-      rw (cut-byte i (omega arith), cut-byte (i + 1) (omega arith), cut-byte (i + 2) (omega arith), cut-byte (i + 3) (omega arith))
+  cut-same : (i : ℕ) → i < size (kindOf u) → byte (take m u) i ≡ byte u i
+  cut-same i h = getD-take m u i 0 (omega arith)
 
   cut-kind : kindOf (take m u) ≡ kindOf u
-  cut-kind = cut-byte 0 (omega arith)
+  cut-kind = agreeing-kind u (take m u) e cut-there cut-same
 
   cut-record : recordOf (take m u) ≡ recordOf u
-  unfolding recordOf
-  cut-record =
-      rw cut-kind
-      (same-decoded (kindOf u) (four (take m u) 1) (four (take m u) 5) (eight (take m u) 5) (four u 1) (four u 5) (eight u 5)
-      (λ l. cut-four 1 (omega arith))
-      (λ l. cut-four 5 (omega arith))
-      (λ l. rw (cut-four 5 (omega arith), cut-four 9 (omega arith))))
+  cut-record = agreeing-record u (take m u) e cut-there cut-same
 
   cut-number : recordNumber (take m u) ≡ 0
-  unfolding recordNumber
-  cut-number =
-      let w = accepted-whole u e in
-      let n : length (take m u) ≡ min m (length u) = length-take m u in
-      rw (cut-kind, cut-record, lt-ltb 0 (length (take m u)) (omega arith), accepted-kind u e, le-leb (size (kindOf u)) (length (take m u)) (omega arith))
-      (accepted-address u e)
+  cut-number = agreeing-number u (take m u) e cut-there cut-same
 
-drop-take : (n m : ℕ) (l : List ℕ) → drop n (take m l) ≡ take (m - n) (drop n l)
+pub drop-take : (n m : ℕ) (l : List ℕ) → drop n (take m l) ≡ take (m - n) (drop n l)
 drop-take zero m l = rw (sub-zero m)
 drop-take (suc n) zero l = rw (zero-sub (suc n))
 drop-take (suc n) (suc m) [] = sym (take-nil (suc m - suc n))
@@ -278,33 +254,12 @@ accepted-alone s rs last n h x = let a = alone h x in (a .items, a .number, a .w
 
 -- ---- The numbers of the records
 
--- Of bytes
-joined-fits : (a b c d : ℕ) → a < 256 → b < 256 → c < 256 → d < 256 → joined a b c d < 0x100000000
-joined-fits a b c d ha hb hc hd = omega arith
-
 both-fit : (a b : ℕ) → a < 0x100000000 → b < 0x100000000 → a * 0x100000000 + b < 0x10000000000000000
 both-fit a b ha hb = omega arith
 
-decoded-fits : (k a v w : ℕ) → a < 0x100000000 → v < 0x100000000 → w < 0x10000000000000000 → Fits (decoded k a v w)
-unfolding decoded
-decoded-fits zero a v w ha hv hw = tt
-decoded-fits (suc zero) a v w ha hv hw = hv
-decoded-fits (suc (suc zero)) a v w ha hv hw = hv
-decoded-fits (suc (suc (suc zero))) a v w ha hv hw = ha
-decoded-fits (suc (suc (suc (suc zero)))) a v w ha hv hw = ha
-decoded-fits (suc (suc (suc (suc (suc zero))))) a v w ha hv hw = ha
-decoded-fits (suc (suc (suc (suc (suc (suc zero)))))) a v w ha hv hw = tt
-decoded-fits (suc (suc (suc (suc (suc (suc (suc zero))))))) a v w ha hv hw = tt
-decoded-fits (suc (suc (suc (suc (suc (suc (suc (suc zero)))))))) a v w ha hv hw = hw
-decoded-fits (suc (suc (suc (suc (suc (suc (suc (suc (suc zero))))))))) a v w ha hv hw = hw
-decoded-fits (suc (suc (suc (suc (suc (suc (suc (suc (suc (suc k)))))))))) a v w ha hv hw = tt
-
-four-fits : (s : List ℕ) (i : ℕ) → ((j : ℕ) → byte s j < 256) → four s i < 0x100000000
-four-fits s i h = joined-fits (byte s i) (byte s (i + 1)) (byte s (i + 2)) (byte s (i + 3)) (h i) (h (i + 1)) (h (i + 2)) (h (i + 3))
-
-record-fits : (s : List ℕ) → ((j : ℕ) → byte s j < 256) → Fits (recordOf s)
+pub read-fits : (s : List ℕ) → Bytes s → Fits (recordOf s)
 unfolding recordOf
-record-fits s h =
+read-fits s h =
     decoded-fits (kindOf s) (four s 1) (four s 5) (eight s 5) (four-fits s 1 h) (four-fits s 5 h)
     (both-fit (four s 5) (four s 9) (four-fits s 5 h) (four-fits s 9 h))
 
@@ -312,16 +267,16 @@ by-number : (n : ℕ) (x : Split) → AllFit (x .items) → AllFit (ifRefused n 
 by-number zero x h = h
 by-number (suc n) x h = tt
 
-from-fit : (k : ℕ) (s : List ℕ) → ((j : ℕ) → byte s j < 256) → AllFit (splitFrom k s .items)
+from-fit : (k : ℕ) (s : List ℕ) → Bytes s → AllFit (splitFrom k s .items)
 unfolding splitFrom
 from-fit k [] h = tt
 from-fit zero (b ∷ s) h =
     by-number (recordNumber (b ∷ s)) (precedes (recordOf (b ∷ s)) (splitFrom (bodySize b) s))
-    (record-fits (b ∷ s) h, from-fit (bodySize b) s (λ j. h (suc j)))
+    (read-fits (b ∷ s) h, from-fit (bodySize b) s (λ j. h (suc j)))
 from-fit (suc k) (b ∷ s) h = from-fit k s (λ j. h (suc j))
 
 -- Values and budgets are below 2 ^ 32, words below 2 ^ 64
-pub items-fit : (s : List ℕ) → ((i : ℕ) → getD s i 0 < 256) → AllFit (split s .items)
+pub items-fit : (s : List ℕ) → Bytes s → AllFit (split s .items)
 items-fit s h = from-fit 0 s h
 
 -- A recording that is too long is declined at its start

@@ -1,8 +1,8 @@
 -- The kinds of records: one byte of kind, then a body whose length the kind fixes, numbers most significant byte first.
-use Prim.Native.Nat.{ℕ, _+_, _*_}
-use mathlib.Core.Bool.{Bool, _&&_}
+use Prim.Native.Nat.{ℕ, _+_, _*_, _<_}
+use mathlib.Core.Bool.{Bool, _&&_, _||_}
 use mathlib.Core.List.{List, [], _∷_}
-use lib.Dec.{leb}
+use lib.Dec.{leb, eqb}
 use lib.ListN.{getD}
 use Rattle.recording.specs.declared.Record.{Record}
 use Rattle.recording.specs.declared.Record.the-variants.{None, Write, Read, SpRun, DpRun, Tick, Break, Acknowledge, Store, Check}
@@ -10,6 +10,10 @@ use Rattle.recording.specs.declared.Record.the-variants.{None, Write, Re
 -- A byte, 0 past the end
 abbrev pub byte : List ℕ → ℕ → ℕ
 byte s i = getD s i 0
+
+-- Bytes, as the types of the code have them
+abbrev pub Bytes : List ℕ → Type 0
+Bytes s = (i : ℕ) → byte s i < 256
 
 -- Four bytes as a number
 abbrev pub joined : ℕ → ℕ → ℕ → ℕ → ℕ
@@ -25,6 +29,16 @@ eight s i = four s i * 0x100000000 + four s (i + 4)
 -- Kinds 1 to 9
 abbrev pub isKind : ℕ → Bool
 isKind kind = leb 1 kind && leb kind 9
+
+-- Those that name a register, those that have one number of four bytes, and those that name a memory address
+abbrev pub accesses : ℕ → Bool
+accesses kind = eqb kind 1 || eqb kind 2
+
+abbrev pub runsOrTicks : ℕ → Bool
+runsOrTicks kind = leb 3 kind && leb kind 5
+
+abbrev pub storesOrChecks : ℕ → Bool
+storesOrChecks kind = eqb kind 8 || eqb kind 9
 
 -- The length of the body of each kind, from 0 on, which is no kind
 abbrev pub bodies : List ℕ

@@ -1,4 +1,7 @@
 pub mod Kinds
+pub mod Fields
 pub mod Reader
+pub mod Writer
 pub mod Split
+pub mod Written
 pub mod Samples

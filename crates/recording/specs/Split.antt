@@ -9,8 +9,8 @@ use Rattle.words.specs.Tests.{implies}
 use Rattle.machine.specs.Address.{registerAt}
 use Rattle.machine.specs.Refusals.{isRegister, ifRefused}
 use Rattle.recording.specs.declared.Record.{Record}
-use Rattle.recording.specs.declared.Record.the-variants.{None, Write, Read, SpRun, DpRun, Tick, Break, Acknowledge, Store, Check}
-use Rattle.recording.specs.Kinds.{four, isKind, bodySize, size, kindOf, recordOf}
+use Rattle.recording.specs.Kinds.{four, isKind, accesses, storesOrChecks, bodySize, size, kindOf, recordOf}
+use Rattle.recording.specs.Fields.{Fits}
 use Rattle.recording.specs.Reader.{memoryAllowed, recordNumber, refused, found, readRecord}
 
 -- The records that are accepted, in order, and the number of the one that is declined after them, 0 if none is left
@@ -44,15 +44,9 @@ pub data ReadOn (s : List ℕ) : ℕ → List Record → ℕ → ℕ → Type 0 
   reads : {at p last n : ℕ} {r : Record} {rs : List Record} → at < length s → readRecord s at ≡ found r p → ReadOn s p rs last n
       → ReadOn s at (r ∷ rs) last n
 
--- A known kind whose body is all there; one that names a register; one that names a memory address
+-- A known kind whose body is all there
 abbrev pub whole : List ℕ → Bool
 whole s = ltb 0 (length s) && isKind (kindOf s) && leb (size (kindOf s)) (length s)
-
-abbrev pub accesses : ℕ → Bool
-accesses kind = eqb kind 1 || eqb kind 2
-
-abbrev pub storesOrChecks : ℕ → Bool
-storesOrChecks kind = eqb kind 8 || eqb kind 9
 
 -- Each number exactly in its case, by the first that applies, and 0 where none does
 pub record RecordGiven (s : List ℕ) : Type 0 where
@@ -67,19 +61,7 @@ pub record RecordGiven (s : List ℕ) : Type 0 where
 abbrev pub LengthGiven : List ℕ → Type 0
 LengthGiven s = (at : ℕ) → eqb (readRecord s at .number) 9 ≡ ltb 16383 (length s)
 
--- Values, budgets and ticks below 2^32, words below 2^64
-abbrev pub Fits : Record → Type 0
-Fits None = Unit {0}
-Fits (Write a v) = v < 0x100000000
-Fits (Read a v) = v < 0x100000000
-Fits (SpRun b) = b < 0x100000000
-Fits (DpRun b) = b < 0x100000000
-Fits (Tick n) = n < 0x100000000
-Fits Break = Unit {0}
-Fits Acknowledge = Unit {0}
-Fits (Store a w) = w < 0x10000000000000000
-Fits (Check a w) = w < 0x10000000000000000
-
+-- Every number of the records has the width of its field
 abbrev pub AllFit : List Record → Type 0
 AllFit [] = Unit {0}
 AllFit (r ∷ rs) = Fits r × AllFit rs

@@ -1,4 +1,4 @@
-// Recordings: the records that they hold, and what a reader answers. The definitions are in specs/; `reader` has the code.
+// Recordings: the records that they hold, and what a reader and a writer answer. The definitions are in specs/; `reader` and `writer` have the code.
 
 // One record. An address is the raw 32 bits that stand in the recording. `None` is no record: a declined reading gives it.
 pub enum Record {
@@ -12,6 +12,15 @@ pub enum Record {
     Acknowledge,
     Store(u32, u64),
     Check(u32, u64),
+}
+
+// A record by its kind and fields, as the writer takes it and as host programs get it. The value is the second field of kinds 1, 2, 8 and 9, and the
+// only one of kinds 3, 4 and 5. Every byte can stand as the kind; known are 1 to 9.
+#[repr(C)]
+pub struct Fields {
+    pub value: u64,
+    pub address: u32,
+    pub kind: u8,
 }
 
 // What the reader answers: 0, the record and the place after it; or the number of the first check that failed, no record and place 0.

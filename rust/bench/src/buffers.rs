@@ -56,6 +56,16 @@ impl From<ofersky::Replayed> for Left {
     }
 }
 
+/// A writer of recordings leaves the place after the last record.
+impl From<usize> for Left {
+    fn from(place: usize) -> Left {
+        Left {
+            state: ofersky::State::default(),
+            count: place as u32,
+        }
+    }
+}
+
 impl From<Ran> for Left {
     fn from(ran: Ran) -> Left {
         Left {

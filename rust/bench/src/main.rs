@@ -9,7 +9,7 @@ mod timing;
 use timing::Line;
 
 fn main() {
-    println!("Nanoseconds a word (for turns a call, for replays a record): medians of interleaved rounds on this machine.");
+    println!("Nanoseconds a word (for turns a call, for recordings a record): medians of interleaved rounds on this machine.");
     println!("Plain Rust is the same loop, word by word, without checks of its input. Copy is copy_from_slice of as many bytes.\n");
     println!("| What | Size | Ours | Plain Rust | Copy | Ours / plain Rust |");
     println!("|---|--:|--:|--:|--:|--:|");

@@ -1,25 +1,48 @@
 //! A call with all that it is handed.
 
-use crate::memory::Lent;
-use ofersky::State;
+use crate::memory::{output, Lent};
+use ofersky::{Record, State};
 
 /// A public call and its arguments other than the state and the memories. `out` is the length of the output that is lent.
 #[derive(Clone, Debug, PartialEq, Eq)]
 pub enum Call {
     PowerUp,
     IsSound,
-    Read { address: u32 },
-    Write { address: u32, value: u32 },
-    Tick { n: u32 },
+    Read {
+        address: u32,
+    },
+    Write {
+        address: u32,
+        value: u32,
+    },
+    Tick {
+        n: u32,
+    },
     Break,
     Acknowledge,
     SpTurn,
-    SpRun { budget: u32 },
+    SpRun {
+        budget: u32,
+    },
     DpTurn,
-    DpRun { budget: u32, out: usize },
+    DpRun {
+        budget: u32,
+        out: usize,
+    },
     Look,
-    ReadRecord { recording: Vec<u8>, place: usize },
-    Replay { recording: Vec<u8>, out: usize },
+    ReadRecord {
+        recording: Vec<u8>,
+        place: usize,
+    },
+    WriteRecord {
+        item: Record,
+        buffer: Vec<u8>,
+        place: usize,
+    },
+    Replay {
+        recording: Vec<u8>,
+        out: usize,
+    },
 }
 
 /// A call on a state and memories.
@@ -31,7 +54,7 @@ pub struct Case {
 }
 
 /// The names of the calls, in the order of `Call::index`.
-pub const NAMES: [&str; 14] = [
+pub const NAMES: [&str; 15] = [
     "power_up",
     "is_sound",
     "read_register",
@@ -45,6 +68,7 @@ pub const NAMES: [&str; 14] = [
     "dp_run",
     "look_ahead",
     "read_record",
+    "write_record",
     "replay",
 ];
 
@@ -64,7 +88,8 @@ impl Call {
             Call::DpRun { .. } => 10,
             Call::Look => 11,
             Call::ReadRecord { .. } => 12,
-            Call::Replay { .. } => 13,
+            Call::WriteRecord { .. } => 13,
+            Call::Replay { .. } => 14,
         }
     }
 
@@ -85,11 +110,17 @@ impl Call {
         )
     }
 
-    /// The length of the output that it is lent, 0 where it takes none.
-    pub fn out(&self) -> usize {
+    /// Does it take memory or a buffer?
+    pub fn takes_bytes(&self) -> bool {
+        self.takes_memory() || matches!(self, Call::WriteRecord { .. })
+    }
+
+    /// The output that it is lent, empty where it takes none. Of a record that is written it is the buffer.
+    pub fn output(&self) -> Vec<u8> {
         match self {
-            Call::DpRun { out, .. } | Call::Replay { out, .. } => *out,
-            _ => 0,
+            Call::DpRun { out, .. } | Call::Replay { out, .. } => output(*out),
+            Call::WriteRecord { buffer, .. } => buffer.clone(),
+            _ => Vec::new(),
         }
     }
 }

@@ -2,7 +2,7 @@
 
 use crate::random::Random;
 use crate::records::{pieces, record_length};
-use crate::values::{bad_memory_address, not_register};
+use crate::values::{bad_memory_address, not_register, unknown_kind};
 
 /// The longest recording that a replay takes.
 pub const LONGEST: usize = 16_383;
@@ -11,10 +11,7 @@ pub const LONGEST: usize = 16_383;
 pub fn bad_kind(random: &mut Random, recording: &[u8]) -> Vec<u8> {
     let mut damaged = recording.to_vec();
     let at = random.pick(&starts(recording));
-    damaged[at] = match random.below(256) as u8 {
-        1..=9 => random.pick(&[0, 10, 0x81, 255]),
-        kind => kind,
-    };
+    damaged[at] = unknown_kind(random);
     damaged
 }
 

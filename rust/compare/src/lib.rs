@@ -11,6 +11,7 @@ pub mod difference;
 pub mod events;
 pub mod fields;
 pub mod guard;
+pub mod items;
 pub mod memory;
 pub mod random;
 pub mod records;

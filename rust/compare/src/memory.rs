@@ -59,7 +59,8 @@ fn drawing_word(random: &mut Random) -> [u8; 8] {
     word
 }
 
-fn filled(length: usize, fill: u64) -> Vec<u8> {
+/// As many bytes of this pattern; 0 means zeros.
+pub fn filled(length: usize, fill: u64) -> Vec<u8> {
     if fill == 0 {
         return vec![0; length];
     }

@@ -18,7 +18,10 @@ pub fn report(noun: &str, compared: u64, case: &Case, differences: &[String]) ->
 /// A case in full.
 pub fn describe(case: &Case) -> String {
     let mut text = format!("{}{}\n", case.call.name(), arguments(&case.call));
-    if !matches!(case.call, Call::PowerUp | Call::ReadRecord { .. }) {
+    if !matches!(
+        case.call,
+        Call::PowerUp | Call::ReadRecord { .. } | Call::WriteRecord { .. }
+    ) {
         text += &format!("state: {}\n", state(&case.state));
     }
     if case.call.takes_memory() {
@@ -37,7 +40,18 @@ pub fn describe(case: &Case) -> String {
         text += &format!("recording of {} bytes: {shown}\n", recording.len());
         text += &readable(recording);
     }
+    if let Call::WriteRecord { buffer, .. } = &case.call {
+        text += &format!("buffer of {} bytes: {}\n", buffer.len(), bytes(buffer));
+    }
     text
+}
+
+/// The first bytes of a buffer, in hex, if they are not zeros.
+fn bytes(buffer: &[u8]) -> String {
+    if buffer.iter().all(|byte| *byte == 0) {
+        return "all zeros".to_string();
+    }
+    hex(&buffer[..buffer.len().min(2_048)])
 }
 
 fn arguments(call: &Call) -> String {
@@ -48,6 +62,12 @@ fn arguments(call: &Call) -> String {
         Call::SpRun { budget } => format!(", budget 0x{budget:X}"),
         Call::DpRun { budget, out } => format!(", budget 0x{budget:X}, output of {out} bytes"),
         Call::ReadRecord { place, .. } => format!(" at place {place}"),
+        Call::WriteRecord { item, place, .. } => format!(
+            ", kind {}, address {}, value 0x{:X}, at place {place}",
+            item.kind,
+            address_name(item.address),
+            item.value
+        ),
         Call::Replay { out, .. } => format!(", listing buffer of {out} bytes"),
         _ => String::new(),
     }

@@ -3,7 +3,6 @@
 use crate::call::{Call, Case};
 use crate::fields::{from_model, to_model};
 use crate::guard::Guarded;
-use crate::memory::output;
 use model::calls;
 use ofersky::{Answer, Outcome, Part, Reading, Record, State};
 
@@ -17,7 +16,7 @@ pub struct Seen {
     pub written: usize,
     /// A byte beside a lent memory or output was changed.
     pub outside: bool,
-    /// The bytes of RDRAM, DMEM, IMEM, of the output, and those of the next word after a look.
+    /// The bytes of RDRAM, DMEM, IMEM, of the output or the buffer, and those of the next word after a look.
     pub bytes: [Vec<u8>; 5],
 }
 
@@ -33,7 +32,7 @@ impl Seen {
             Default::default()
         };
         Seen {
-            bytes: [rdram, dmem, imem, output(case.call.out()), Vec::new()],
+            bytes: [rdram, dmem, imem, case.call.output(), Vec::new()],
             ..Seen::default()
         }
     }
@@ -47,7 +46,7 @@ impl Seen {
 /// The library's side.
 pub fn library(case: &Case) -> Seen {
     let mut seen = Seen::lent(case);
-    if !case.call.takes_memory() {
+    if !case.call.takes_bytes() {
         call_library(case, &mut seen, [&mut [], &mut [], &mut [], &mut []]);
         return seen;
     }
@@ -62,7 +61,7 @@ pub fn library(case: &Case) -> Seen {
     seen
 }
 
-/// The call itself, over RDRAM, DMEM, IMEM and the output.
+/// The call itself, over RDRAM, DMEM, IMEM and the output or the buffer.
 fn call_library(case: &Case, seen: &mut Seen, lent: [&mut [u8]; 4]) {
     let [rdram, dmem, imem, out] = lent;
     let s = case.state;
@@ -89,6 +88,9 @@ fn call_library(case: &Case, seen: &mut Seen, lent: [&mut [u8]; 4]) {
         }
         Call::ReadRecord { recording, place } => {
             seen.reading = ofersky::read_record(recording, *place)
+        }
+        Call::WriteRecord { item, place, .. } => {
+            seen.outcome.answer = ofersky::write_record(*item, out, *place)
         }
         Call::Replay { recording, .. } => {
             let replayed = ofersky::replay(s, recording, rdram, dmem, imem, out);
@@ -124,6 +126,7 @@ pub fn model(case: &Case) -> Seen {
         Call::ReadRecord { recording, place } => {
             seen.reading = reading(calls::read_record(recording, *place))
         }
+        Call::WriteRecord { item, place, .. } => seen.outcome.answer = written(item, out, *place),
         Call::Replay { recording, .. } => {
             let replayed = calls::replay(s, recording, rdram, dmem, imem, out);
             (seen.outcome, seen.written) = (given(replayed.outcome), replayed.written);
@@ -133,18 +136,22 @@ pub fn model(case: &Case) -> Seen {
 }
 
 fn given(outcome: calls::Outcome) -> Outcome {
+    Outcome {
+        state: from_model(&outcome.state),
+        answer: answer(outcome.answer),
+    }
+}
+
+fn answer(given: calls::Answer) -> Answer {
     let calls::Answer {
         number,
         value,
         count,
-    } = outcome.answer;
-    Outcome {
-        state: from_model(&outcome.state),
-        answer: Answer {
-            number,
-            value,
-            count,
-        },
+    } = given;
+    Answer {
+        number,
+        value,
+        count,
     }
 }
 
@@ -183,10 +190,20 @@ fn reading(found: calls::Reading) -> Reading {
     }
 }
 
+fn written(item: &Record, buffer: &mut [u8], place: usize) -> Answer {
+    let Record {
+        value,
+        address,
+        kind,
+    } = *item;
+    answer(calls::write_record(kind, address, value, buffer, place))
+}
+
 /// The state after a call on the model's side, for a walk from call to call.
 pub fn next_state(case: &Case, seen: &Seen) -> State {
     match case.call {
-        Call::PowerUp | Call::IsSound | Call::Look | Call::ReadRecord { .. } => case.state,
+        Call::PowerUp | Call::IsSound | Call::Look => case.state,
+        Call::ReadRecord { .. } | Call::WriteRecord { .. } => case.state,
         _ => seen.outcome.state,
     }
 }

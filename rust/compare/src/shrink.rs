@@ -1,4 +1,4 @@
-//! Makes a case that shows a difference as small as it can: fewer records, and numbers nearer to zero.
+//! Makes a case that shows a difference as small as it can: fewer records, shorter buffers, and numbers nearer to zero.
 
 use crate::call::{Call, Case};
 use crate::fields::FIELDS;
@@ -20,9 +20,13 @@ enum Number {
     Fill,
     Argument(usize),
     Bytes(Range<usize>),
+    /// The bytes of a buffer before the place of the record, which moves with them.
+    Before,
+    /// Whether a buffer has a byte that is not zero.
+    Filled,
 }
 
-/// The length of the output.
+/// The length of the output or the buffer.
 const OUT: Number = Number::Argument(1);
 
 /// The smallest case found that still differs.
@@ -110,12 +114,14 @@ fn lower_numbers(best: &mut Case, numbers: Vec<Number>, keep: &mut Keep) {
 
 /// The numbers that the time of a call hangs on.
 fn sizes() -> Vec<Number> {
-    vec![Number::Rdram, Number::Fill, OUT]
+    vec![Number::Rdram, Number::Fill, Number::Before, OUT]
 }
 
 fn all_numbers(case: &Case) -> Vec<Number> {
     let mut all: Vec<Number> = (0..FIELDS.len()).map(Number::Field).collect();
-    all.extend([Number::Dmem, Number::Imem, Number::Argument(0), OUT]);
+    all.extend([Number::Dmem, Number::Imem, Number::Filled]);
+    all.extend([0, 2, 3].map(Number::Argument));
+    all.push(OUT);
     all.extend(numbers(recording(case)).into_iter().map(Number::Bytes));
     all
 }
@@ -158,6 +164,11 @@ fn get(case: &Case, number: &Number) -> u64 {
         Number::Bytes(range) => recording(case)[range.clone()]
             .iter()
             .fold(0, |sum, byte| sum << 8 | u64::from(*byte)),
+        Number::Before => before(&case.call),
+        Number::Filled => match &case.call {
+            Call::WriteRecord { buffer, .. } => buffer.iter().any(|byte| *byte != 0).into(),
+            _ => 0,
+        },
     }
 }
 
@@ -176,17 +187,41 @@ fn set(case: &mut Case, number: &Number, value: u64) {
                 recording[range.clone()].copy_from_slice(bytes);
             }
         }
+        Number::Before => set_before(&mut case.call, value as usize),
+        Number::Filled => {
+            if let Call::WriteRecord { buffer, .. } = &mut case.call {
+                buffer.fill(0);
+            }
+        }
     }
 }
 
-/// A number among the arguments of a call. Register addresses are not lowered: a register is not simpler than another.
+/// The place of a record to be written, if it is in the buffer or at its end.
+fn before(call: &Call) -> u64 {
+    match call {
+        Call::WriteRecord { buffer, place, .. } if *place <= buffer.len() => *place as u64,
+        _ => 0,
+    }
+}
+
+fn set_before(call: &mut Call, to: usize) {
+    if let Call::WriteRecord { buffer, place, .. } = call {
+        buffer.drain(to..*place);
+        *place = to;
+    }
+}
+
+/// A number among the arguments of a call. Addresses of register calls are not lowered: a register is not simpler than another.
 fn argument(call: &Call, i: usize) -> u64 {
     match (call, i) {
         (Call::Write { value, .. }, 0) => u64::from(*value),
         (Call::Tick { n }, 0) => u64::from(*n),
         (Call::SpRun { budget } | Call::DpRun { budget, .. }, 0) => u64::from(*budget),
-        (Call::ReadRecord { place, .. }, 0) => *place as u64,
+        (Call::ReadRecord { place, .. } | Call::WriteRecord { place, .. }, 0) => *place as u64,
         (Call::DpRun { out, .. } | Call::Replay { out, .. }, 1) => *out as u64,
+        (Call::WriteRecord { buffer, .. }, 1) => buffer.len() as u64,
+        (Call::WriteRecord { item, .. }, 2) => item.value,
+        (Call::WriteRecord { item, .. }, 3) => u64::from(item.address),
         _ => 0,
     }
 }
@@ -196,8 +231,13 @@ fn set_argument(call: &mut Call, i: usize, to: u64) {
         (Call::Write { value, .. }, 0) => *value = to as u32,
         (Call::Tick { n }, 0) => *n = to as u32,
         (Call::SpRun { budget } | Call::DpRun { budget, .. }, 0) => *budget = to as u32,
-        (Call::ReadRecord { place, .. }, 0) => *place = to as usize,
+        (Call::ReadRecord { place, .. } | Call::WriteRecord { place, .. }, 0) => {
+            *place = to as usize
+        }
         (Call::DpRun { out, .. } | Call::Replay { out, .. }, 1) => *out = to as usize,
+        (Call::WriteRecord { buffer, .. }, 1) => buffer.truncate(to as usize),
+        (Call::WriteRecord { item, .. }, 2) => item.value = to,
+        (Call::WriteRecord { item, .. }, 3) => item.address = to as u32,
         _ => {}
     }
 }

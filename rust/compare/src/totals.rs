@@ -5,12 +5,15 @@ use crate::events::{Event, Events};
 use crate::seen::Seen;
 use std::sync::Mutex;
 
+/// The numbers that calls give: success and the refusals up to 14.
+const NUMBERS: usize = 15;
+
 /// Counts of cases.
 #[derive(Clone, Debug, Default)]
 pub struct Totals {
     pub compared: u64,
     /// Answers by call and by number.
-    pub answers: [[u64; 10]; 14],
+    pub answers: [[u64; NUMBERS]; NAMES.len()],
     /// The records that replays accepted, and the replays that stopped at one or before the first.
     pub records: u64,
     pub stopped: u64,
@@ -115,8 +118,8 @@ impl Sum {
 }
 
 /// The refusals among the answers, by number.
-fn refusals(answers: &[u64; 10]) -> String {
-    let parts: Vec<String> = (1..10)
+fn refusals(answers: &[u64; NUMBERS]) -> String {
+    let parts: Vec<String> = (1..NUMBERS)
         .filter(|number| answers[*number] > 0)
         .map(|number| format!("{number}: {}", grouped(answers[number])))
         .collect();

@@ -1,12 +1,23 @@
 //! Recordings of sensible traffic. Each record is done on the model as it is made, so that the next one can suit the state.
 
 use crate::fields::from_model;
+use crate::memory::Lent;
 use crate::random::Random;
 use crate::values::*;
 use crate::watch::Watch;
 use model::calls;
 use model::machine::*;
 use model::recording::Record;
+
+/// A recording of whole scenes from power-up, of at least as many bytes.
+pub fn scenes(random: &mut Random, bytes: usize) -> Vec<u8> {
+    let lent = Lent::new(4_096, 0);
+    let mut traffic = Traffic::new(random, Watch::new(calls::power_up(), lent.bytes()));
+    while traffic.bytes.len() < bytes {
+        traffic.scene();
+    }
+    traffic.bytes
+}
 
 /// A recording under way.
 pub struct Traffic<'a> {

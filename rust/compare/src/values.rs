@@ -163,6 +163,37 @@ pub fn not_register(random: &mut Random) -> u32 {
     }
 }
 
+/// A kind that no record has.
+pub fn unknown_kind(random: &mut Random) -> u8 {
+    match random.below(256) as u8 {
+        1..=9 => random.pick(&[0, 10, 0x81, 255]),
+        kind => kind,
+    }
+}
+
+/// The first and last address of each block, those beside them and their mirrors.
+pub fn edge_addresses() -> Vec<u32> {
+    let edges = [
+        0,
+        0x00FF_FFF8,
+        0x03EF_FFF8,
+        0x0400_0000,
+        0x0400_1000,
+        0x0400_1FF8,
+        0x0404_0000,
+        0x0404_001C,
+        0x0410_0000,
+        0x0410_001C,
+    ];
+    let steps = (-9..=9).chain([0x1000, 0x2000, -0x1000, 0x2000_0000, -0x6000_0000, i32::MIN]);
+    let beside = |edge: u32| {
+        steps
+            .clone()
+            .map(move |step| edge.wrapping_add_signed(step))
+    };
+    edges.into_iter().flat_map(beside).collect()
+}
+
 /// An address that kinds 8 and 9 allow, mostly one that is lent.
 pub fn memory_address(random: &mut Random, rdram: usize) -> u32 {
     match random.below(8) {

@@ -4,15 +4,14 @@ use compare::call::{Call, Case};
 use compare::cases::{any_case, call_of, good_lengths, odd_lengths, ON_A_STATE};
 use compare::comparison::Comparison;
 use compare::damage::{bad_address, bad_kind, exactly, flipped, LONGEST};
-use compare::fields::{field, to_model, FIELDS, FLAGS};
+use compare::fields::{field, FIELDS, FLAGS};
 use compare::memory::{Lent, LONGEST_RDRAM};
 use compare::random::Random;
 use compare::seen::next_state;
 use compare::states::{break_clause, sound, unsound, BREAKS};
 use compare::totals::{Sum, Totals};
-use compare::traffic::Traffic;
+use compare::traffic::scenes;
 use compare::values::{not_register, register_value, value_for};
-use compare::watch::Watch;
 use model::machine::{DP_STATUS, REGISTERS, SP_STATUS};
 use ofersky::State;
 
@@ -279,16 +278,11 @@ fn huge_memory(comparison: &mut Comparison, random: &mut Random) {
     }
 }
 
-/// A recording of a few scenes from power-up.
+/// A recording of a few scenes from power-up, the last one perhaps cut.
 fn recording(random: &mut Random) -> Vec<u8> {
-    let lent = Lent::new(4_096, 0);
-    let watch = Watch::new(to_model(&ofersky::power_up()), lent.bytes());
-    let mut traffic = Traffic::new(random, watch);
-    while traffic.bytes.len() < 60 {
-        traffic.scene();
-    }
-    traffic.bytes.truncate(300);
-    traffic.bytes
+    let mut recording = scenes(random, 60);
+    recording.truncate(300);
+    recording
 }
 
 #[test]

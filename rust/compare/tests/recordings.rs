@@ -13,6 +13,7 @@ use compare::seen::Seen;
 use compare::states::{break_clause, sound, unsound, BREAKS};
 use compare::totals::{Sum, Totals};
 use compare::traffic::Traffic;
+use compare::values::edge_addresses;
 use compare::watch::Watch;
 use model::machine::{command_length, DP_END, DP_START, DP_STATUS, SP_RDLEN, SP_WRLEN};
 use model::recording::Record;
@@ -308,31 +309,16 @@ fn lengths_states_and_listings() {
     done("lengths, states and listings", &comparison.totals);
 }
 
-/// The first and last address of each block, those beside them and their mirrors, in each kind that has an address.
+/// The addresses at the edges of the blocks, in each kind that has an address.
 fn every_bad_address(comparison: &mut Comparison) {
-    let edges = [
-        0,
-        0x00FF_FFF8,
-        0x03EF_FFF8,
-        0x0400_0000,
-        0x0400_1000,
-        0x0400_1FF8,
-        0x0404_0000,
-        0x0404_001C,
-        0x0410_0000,
-        0x0410_001C,
-    ];
-    let steps = (-9..=9).chain([0x1000, 0x2000, -0x1000, 0x2000_0000, -0x6000_0000, i32::MIN]);
-    for edge in edges {
-        for address in steps.clone().map(|step| step.wrapping_add(edge)) {
-            for (kind, body) in [(1, 4), (2, 4), (8, 8), (9, 8)] {
-                let mut recording = vec![7, kind];
-                recording.extend(address.to_be_bytes());
-                recording.extend(vec![0xFF; body]);
-                recording.push(6);
-                let lent = Lent::new(4_096, 1);
-                comparison.check(&case(ofersky::power_up(), lent, recording, 200));
-            }
+    for address in edge_addresses() {
+        for (kind, body) in [(1, 4), (2, 4), (8, 8), (9, 8)] {
+            let mut recording = vec![7, kind];
+            recording.extend(address.to_be_bytes());
+            recording.extend(vec![0xFF; body]);
+            recording.push(6);
+            let lent = Lent::new(4_096, 1);
+            comparison.check(&case(ofersky::power_up(), lent, recording, 200));
         }
     }
 }

@@ -4,7 +4,8 @@ use compare::call::{Call, Case};
 use compare::comparison::Comparison;
 use compare::difference::hex;
 use compare::fields::to_model;
-use compare::memory::Lent;
+use compare::items::{any_item, buffer_length, place_for};
+use compare::memory::{filled, Lent};
 use compare::random::Random;
 use compare::records::pieces;
 use compare::seen::{model, Seen};
@@ -56,6 +57,28 @@ fn writes_before_it_declines(case: &Case) -> Seen {
     seen
 }
 
+/// A writer that refuses a record which just fits.
+fn no_room_for_the_last_byte(case: &Case) -> Seen {
+    let mut seen = model(case);
+    let output = case.call.output();
+    let answer = &mut seen.outcome.answer;
+    if answer.number == 0 && answer.value == output.len() as u64 {
+        (answer.number, answer.value) = (14, 0);
+        seen.bytes[3] = output;
+    }
+    seen
+}
+
+/// A writer that clears the byte after the record.
+fn clears_the_next_byte(case: &Case) -> Seen {
+    let mut seen = model(case);
+    let after = seen.outcome.answer.value as usize;
+    if seen.number() == 0 && after < seen.bytes[3].len() {
+        seen.bytes[3][after] = 0;
+    }
+    seen
+}
+
 /// What is reported of a wrong side, over cases that are made in order.
 fn reported(wrong: fn(&Case) -> Seen, noun: &'static str, make: fn(&mut Random) -> Case) -> String {
     let result = catch_unwind(AssertUnwindSafe(|| {
@@ -99,6 +122,19 @@ fn sp_turn(random: &mut Random) -> Case {
     }
 }
 
+fn write_record(random: &mut Random) -> Case {
+    let item = any_item(random);
+    let buffer = filled(buffer_length(random), random.below(1_000));
+    let place = place_for(random, item.kind, buffer.len());
+    let call = Call::WriteRecord {
+        item,
+        buffer,
+        place,
+    };
+    let (state, lent) = (ofersky::power_up(), Lent::new(0, 0));
+    Case { state, lent, call }
+}
+
 /// The hex bytes of the recording in a report.
 fn shown_recording(report: &str) -> Vec<u8> {
     let line = report.lines().find(|line| line.starts_with("recording of"));
@@ -107,9 +143,8 @@ fn shown_recording(report: &str) -> Vec<u8> {
     (0..hex.len() / 2).map(byte).collect()
 }
 
-/// The reports of these four, with the panic's own message kept off the screen.
-#[test]
-fn wrong_sides_are_found() {
+/// The reports of these six, with the panic's own message kept off the screen.
+fn reports() -> [String; 6] {
     let hook = take_hook();
     set_hook(Box::new(|_| {}));
     let reports = [
@@ -117,12 +152,19 @@ fn wrong_sides_are_found() {
         reported(no_last_line_end, "recording", recording),
         reported(sync_full_by_the_whole_byte, "call", dp_run),
         reported(writes_before_it_declines, "call", sp_turn),
+        reported(no_room_for_the_last_byte, "call", write_record),
+        reported(clears_the_next_byte, "call", write_record),
     ];
     set_hook(hook);
     for report in &reports {
         println!("{report}");
     }
-    let [skip, line_end, framing, declined] = reports;
+    reports
+}
+
+#[test]
+fn wrong_sides_are_found() {
+    let [skip, line_end, framing, declined, room, next_byte] = reports();
 
     let shortest = shown_recording(&skip);
     assert!(skip.starts_with("difference at recording "));
@@ -139,4 +181,11 @@ fn wrong_sides_are_found() {
 
     assert!(declined.contains("state: as at power-up\n"));
     assert!(declined.contains("\n  IMEM at 0x8: expected "));
+
+    assert!(room.contains(", value 0x0, at place 0\nbuffer of "));
+    assert!(room.contains(" bytes: all zeros\n"));
+    assert!(room.contains("\n  number: expected 0x0 by the model, given 0xE by the library"));
+
+    assert!(next_byte.contains(", address 0x00000000, value 0x0, at place 0\nbuffer of "));
+    assert!(next_byte.contains("; bytes that differ: 1\n"));
 }

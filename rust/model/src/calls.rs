@@ -470,6 +470,24 @@ pub fn read_record(recording: &[u8], place: usize) -> Reading {
     }
 }
 
+/// Appends one record to a buffer from a place on, whatever the place is. The
+/// value is the place after it. A field that the kind does not have plays no
+/// part, nor do the upper 32 bits of the value for kinds 1 to 5.
+pub fn write_record(kind: u8, address: u32, value: u64, buffer: &mut [u8], place: usize) -> Answer {
+    let written = Record::of(kind, address, value)
+        .and_then(|record| recording::append(record, buffer, place));
+    match written {
+        Ok(place) => Answer {
+            value: place as u64,
+            ..Answer::default()
+        },
+        Err(number) => Answer {
+            number,
+            ..Answer::default()
+        },
+    }
+}
+
 /// Replays a recording and writes as much of its listing as `out` has room
 /// for. It stops at the first record that is refused, and what the records
 /// before it did stays done.

@@ -5,7 +5,8 @@
 /// The engines, their registers, the two interrupt lines and the memories.
 pub mod machine;
 
-/// Records, the replay of a recording, and the text of its listing.
+/// Records, the writing and the replay of a recording, and the text of its
+/// listing.
 pub mod recording;
 
 /// Every call on a whole state, for every input, with its refusals.

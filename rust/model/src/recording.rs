@@ -1,4 +1,5 @@
-//! Recordings: their records, the replay of them, and the listing.
+//! Recordings: their records, the writing and the replay of them, and the
+//! listing.
 
 use crate::machine::{load_word, store_word, Machine, BANK_BYTES, NOT_A_REGISTER, REGISTERS};
 use std::ops::{Deref, DerefMut};
@@ -11,6 +12,8 @@ pub const UNKNOWN_KIND: u32 = 7;
 pub const CUT_SHORT: u32 = 8;
 /// The number for a recording that is too long.
 pub const TOO_LONG: u32 = 9;
+/// The number for a record that there is no room to write.
+pub const DOES_NOT_FIT: u32 = 14;
 
 /// A recording may have this many bytes and no more.
 pub const LONGEST: usize = 16_383;
@@ -68,37 +71,45 @@ fn number(bytes: &[u8]) -> u64 {
 }
 
 impl Record {
+    /// The record of a kind and its fields. A field that the kind does not have
+    /// plays no part; a value of kinds 1 to 5 has 32 bits.
+    pub fn of(kind: u8, address: u32, value: u64) -> Result<Record, u32> {
+        let low = value as u32;
+        Ok(match kind {
+            1 => Record::Write {
+                address,
+                value: low,
+            },
+            2 => Record::Read {
+                address,
+                expected: low,
+            },
+            3 => Record::SpRun { budget: low },
+            4 => Record::DpRun { budget: low },
+            5 => Record::Tick { n: low },
+            6 => Record::Break,
+            7 => Record::Acknowledge,
+            8 => Record::Store {
+                address,
+                word: value,
+            },
+            9 => Record::Check {
+                address,
+                expected: value,
+            },
+            _ => return Err(UNKNOWN_KIND),
+        })
+    }
+
     /// The record that stands first in these bytes, and how many of them it
     /// takes. Where there is no byte, there is not even a kind: cut short.
     pub fn decode(bytes: &[u8]) -> Result<(Record, usize), u32> {
         let kind = *bytes.first().ok_or(CUT_SHORT)?;
         let length = 1 + body_length(kind).ok_or(UNKNOWN_KIND)?;
         let body = bytes.get(1..length).ok_or(CUT_SHORT)?;
-        let first = number(&body[..body.len().min(4)]) as u32;
-        let second = number(body.get(4..).unwrap_or(&[]));
-        let record = match kind {
-            1 => Record::Write {
-                address: first,
-                value: second as u32,
-            },
-            2 => Record::Read {
-                address: first,
-                expected: second as u32,
-            },
-            3 => Record::SpRun { budget: first },
-            4 => Record::DpRun { budget: first },
-            5 => Record::Tick { n: first },
-            6 => Record::Break,
-            7 => Record::Acknowledge,
-            8 => Record::Store {
-                address: first,
-                word: second,
-            },
-            _ => Record::Check {
-                address: first,
-                expected: second,
-            },
-        };
+        // A body of more than 4 bytes begins with an address.
+        let (address, value) = body.split_at(if body.len() > 4 { 4 } else { 0 });
+        let record = Record::of(kind, number(address) as u32, number(value))?;
         Ok((record, length))
     }
 
@@ -151,6 +162,21 @@ pub fn record_at(recording: &[u8], place: usize) -> Result<(Record, usize), u32>
     let (record, length) = Record::decode(rest)?;
     record.check_address()?;
     Ok((record, place + length))
+}
+
+/// Appends a record to a buffer from a place on and gives the place after it.
+/// If it gives a number, no byte is changed.
+pub fn append(record: Record, buffer: &mut [u8], place: usize) -> Result<usize, u32> {
+    record.check_address()?;
+    let bytes = record.encode();
+    // It may end neither past the buffer nor past the longest recording.
+    let room = buffer.len().min(LONGEST);
+    let end = place.checked_add(bytes.len()).ok_or(DOES_NOT_FIT)?;
+    if end > room {
+        return Err(DOES_NOT_FIT);
+    }
+    buffer[place..end].copy_from_slice(&bytes);
+    Ok(end)
 }
 
 /// The number for a recording that is too long.

@@ -110,7 +110,8 @@ pub struct Part {
     pub length: u32,
 }
 
-/// A record. `value` is the second field of kinds 1, 2, 8 and 9, and the only one of kinds 3, 4 and 5; a field that a kind does not have is 0.
+/// A record. `value` is the second field of kinds 1, 2, 8 and 9, and the only one of kinds 3, 4 and 5.
+/// A field that a kind does not have is 0 in a record that is read, and plays no part in one that is written.
 #[repr(C)]
 #[derive(Clone, Copy, Debug, Default, PartialEq, Eq)]
 pub struct Record {
@@ -222,6 +223,29 @@ pub fn next_word<'a>(state: State, rdram: &'a [u8], dmem: &'a [u8]) -> &'a [u8] 
 pub fn read_record(recording: &[u8], place: usize) -> Reading {
     let r = shared(recording);
     unsafe { raw::ofersky_read_record(r.0, r.1, place) }
+}
+
+/// Appends a record to a buffer from a place on; the value is the place after it, and no other byte changes.
+/// Of kinds 1 to 5 only the lower half of the value is written. Refusals: 7, 5, 6, and then 14, where the record
+/// would end past the buffer or past 16,383 bytes.
+///
+/// ```
+/// use ofersky::{read_record, write_record, Record};
+///
+/// let load = Record { kind: 1, address: 0x0404_0008, value: 0x0F };
+/// let run = Record { kind: 3, address: 0, value: 100 };
+/// let mut buffer = [0; 14];
+/// let after = write_record(load, &mut buffer, 0).value as usize;
+/// let end = write_record(run, &mut buffer, after).value as usize;
+/// assert_eq!(buffer, [1, 4, 4, 0, 8, 0, 0, 0, 0x0F, 3, 0, 0, 0, 100]);
+/// assert_eq!(read_record(&buffer, 0).item, load);
+/// assert_eq!(read_record(&buffer, after).item, run);
+/// // The buffer is full.
+/// assert_eq!(write_record(run, &mut buffer, end).number, 14);
+/// ```
+pub fn write_record(item: Record, buffer: &mut [u8], place: usize) -> Answer {
+    let b = lent(buffer);
+    unsafe { raw::ofersky_write_record(item, b.0, b.1, place) }
 }
 
 /// Replays a recording and writes its listing to `out`. Refusals: 9, 1, 2, 3, 4, and those of its records: 7, 8, 5, 6.

@@ -1,6 +1,6 @@
 //! The functions of the static library. Nothing checks these declarations against its source: the comparison with the model does.
 
-use crate::{Outcome, Part, Reading, Replayed, State};
+use crate::{Answer, Outcome, Part, Reading, Record, Replayed, State};
 
 extern "C" {
     pub fn ofersky_power_up() -> State;
@@ -58,6 +58,12 @@ extern "C" {
         recording_bytes: usize,
         place: usize,
     ) -> Reading;
+    pub fn ofersky_write_record(
+        item: Record,
+        buffer: *mut u8,
+        buffer_bytes: usize,
+        place: usize,
+    ) -> Answer;
     pub fn ofersky_replay(
         s: State,
         recording: *const u8,

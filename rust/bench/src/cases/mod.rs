@@ -4,6 +4,7 @@ mod dp;
 mod replays;
 mod sp;
 mod turns;
+mod writing;
 
 use crate::timing::Line;
 
@@ -25,4 +26,5 @@ pub fn all(show: &mut dyn FnMut(Line)) {
     dp::all(show);
     turns::all(show);
     replays::all(show);
+    writing::all(show);
 }

@@ -10,7 +10,7 @@ use crate::timing::{measure, Line};
 const RDRAM: usize = 32_768;
 
 /// Groups of 24 records in 200 bytes.
-const GROUPS: [usize; 2] = [7, 70];
+pub const GROUPS: [usize; 2] = [7, 70];
 
 /// A recording in the making, and the machine that it leads to: reads and checks expect what is there.
 struct Recorder {
@@ -97,14 +97,20 @@ impl Recorder {
     }
 }
 
+/// A recording of so many groups, and the number of its records.
+pub fn recording(groups: usize) -> (Vec<u8>, usize) {
+    let mut recorder = Recorder::new();
+    let mut random = Random::new();
+    for _ in 0..groups {
+        recorder.group(&mut random);
+    }
+    (recorder.bytes, recorder.records)
+}
+
 pub fn all(show: &mut dyn FnMut(Line)) {
     for groups in GROUPS {
-        let mut recorder = Recorder::new();
-        let mut random = Random::new();
-        for _ in 0..groups {
-            recorder.group(&mut random);
-        }
-        show(replayed(&recorder.bytes, recorder.records));
+        let (bytes, records) = recording(groups);
+        show(replayed(&bytes, records));
     }
 }
 

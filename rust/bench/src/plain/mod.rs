@@ -6,6 +6,7 @@ pub mod registers;
 pub mod replay;
 pub mod sp;
 mod words;
+pub mod writing;
 
 use dp::Dp;
 use sp::Sp;

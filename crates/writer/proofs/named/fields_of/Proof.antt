@@ -1,6 +1,6 @@
 use borrow.Author.Needs.{needs}
-use Rattle.ofersky.proofs.recordings.record_handed.Statement.{statement}
-use Rattle.ofersky.proofs.recordings.record_handed.Tie as tie
+use Rattle.writer.proofs.named.fields_of.Statement.{statement}
+use Rattle.writer.proofs.named.fields_of.Tie as tie
 
 enum-told : tie.Need-enum-told
 enum-told c = search needs
@@ -107,8 +107,8 @@ returns-9 c = cc
 returns-10 : tie.Need-returns-10
 returns-10 c = cc
 
-pub record-handed-spec : {M : Type 1} → statement M
-record-handed-spec =
+pub fields-of-spec : {M : Type 1} → statement M
+fields-of-spec =
     tie.close
     (tie.spec
     enum-told

@@ -1,0 +1,18 @@
+use borrow.Author.Needs.{needs}
+use Rattle.writer.proofs.bytes.second_field.Statement.{statement}
+use Rattle.writer.proofs.bytes.second_field.Tie as tie
+
+high-half-requires : tie.Need-high-half-requires
+high-half-requires c κs = search needs
+
+low-half-requires : tie.Need-low-half-requires
+low-half-requires c κs = search needs
+
+pick-requires : tie.Need-pick-requires
+pick-requires c κs = search needs
+
+returns : tie.Need-returns
+returns c = cc
+
+pub second-field-spec : {M : Type 1} → statement M
+second-field-spec = tie.close (tie.spec high-half-requires low-half-requires pick-requires returns)

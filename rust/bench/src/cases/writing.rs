@@ -1,0 +1,49 @@
+//! Recordings written record by record, each by a call of its own. The cost of a record must not grow with the recording.
+
+use super::replays::{recording, GROUPS};
+use crate::buffers::Buffers;
+use crate::plain::writing::write;
+use crate::timing::{measure, Line};
+use ofersky::Record;
+
+pub fn all(show: &mut dyn FnMut(Line)) {
+    for groups in GROUPS {
+        let (bytes, _) = recording(groups);
+        show(written(&bytes, &records(&bytes)));
+    }
+}
+
+fn records(recording: &[u8]) -> Vec<Record> {
+    let mut records = Vec::new();
+    let mut place = 0;
+    while place < recording.len() {
+        let reading = ofersky::read_record(recording, place);
+        assert_eq!(reading.number, 0);
+        records.push(reading.item);
+        place = reading.place;
+    }
+    records
+}
+
+fn written(recording: &[u8], records: &[Record]) -> Line {
+    measure(
+        format!("writing of {} bytes", recording.len()),
+        records.len(),
+        &mut Buffers::new(0, recording.len()),
+        |b| {
+            let mut place = 0;
+            for item in records {
+                place = ofersky::write_record(*item, &mut b.out, place).value as usize;
+            }
+            place
+        },
+        |b| {
+            let mut place = 0;
+            for item in records {
+                place = write(item.kind, item.address, item.value, &mut b.out, place);
+            }
+            place
+        },
+        |b| b.out.copy_from_slice(recording),
+    )
+}
