@@ -16,7 +16,7 @@ use Rattle.recording.specs.Fields.{fieldsOf, Fits}
 use Rattle.recording.specs.Reader.{addressNumber, recordNumber}
 use Rattle.recording.specs.Writer.{fourBytes, recordBytes}
 use Rattle.recording.proofs.Accepted.{body-at-most, accepted-kind, accepted-whole}
-use Rattle.recording.proofs.Named.{never, known-kind}
+use Rattle.recording.proofs.Named.{never, each-kind}
 
 -- ---- Four bytes and eight bytes
 
@@ -142,18 +142,9 @@ longestBytes k a v l = k ∷ fourBytes a ++ fourBytes v ++ fourBytes l
 pub decoded-bytes : (k a v l : ℕ) → isKind k ≡ true → l < 0x100000000
     → recordBytes (decoded k a v (v * 0x100000000 + l)) ≡ take (size k) (longestBytes k a v l)
 unfolding decoded
-decoded-bytes zero a v l e h = never e
-decoded-bytes (suc zero) a v l e h = refl
-decoded-bytes (suc (suc zero)) a v l e h = refl
-decoded-bytes (suc (suc (suc zero))) a v l e h = refl
-decoded-bytes (suc (suc (suc (suc zero)))) a v l e h = refl
-decoded-bytes (suc (suc (suc (suc (suc zero))))) a v l e h = refl
-decoded-bytes (suc (suc (suc (suc (suc (suc zero)))))) a v l e h = refl
-decoded-bytes (suc (suc (suc (suc (suc (suc (suc zero))))))) a v l e h = refl
-decoded-bytes (suc (suc (suc (suc (suc (suc (suc (suc zero)))))))) a v l e h = rw (halves-bytes v l h)
-decoded-bytes (suc (suc (suc (suc (suc (suc (suc (suc (suc zero))))))))) a v l e h = rw (halves-bytes v l h)
-decoded-bytes (suc (suc (suc (suc (suc (suc (suc (suc (suc (suc k)))))))))) a v l e h =
-    absurd (omega (arith, known-kind (suc (suc (suc (suc (suc (suc (suc (suc (suc (suc k)))))))))) e .1))
+decoded-bytes k a v l e h =
+    each-kind (λ (n : ℕ). recordBytes (decoded n a v (v * 0x100000000 + l)) ≡ take (size n) (longestBytes n a v l))
+    refl refl refl refl refl refl refl (rw (halves-bytes v l h)) (rw (halves-bytes v l h)) k e
 
 -- The m bytes from a place on
 abbrev bytesFrom : ℕ → List ℕ → ℕ → List ℕ

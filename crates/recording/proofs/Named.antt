@@ -13,6 +13,30 @@ use Rattle.recording.specs.declared.Fields.{Fields}
 use Rattle.recording.specs.Kinds.{isKind, runsOrTicks, decoded}
 use Rattle.recording.specs.Fields.{ofKind, fieldsOf, low, firstField, recordBy, RecordsBy, KindsNamed, hasAddress, hasValue, hasWord, SameFields, FieldsKept, Fits, FieldsFit}
 
+-- ---- The nine kinds
+
+-- A test that is false
+pub never : {P : Type 0} → _≡_ {A = Bool} false true → P
+never e = contradiction e refl
+
+at-most-nine : (k : ℕ) → isKind k ≡ true → k ≤ 9
+at-most-nine k e = leb-true k 9 (and-true (leb 1 k) (leb k 9) e .1)
+
+-- What holds of each of them holds of every known kind
+pub each-kind : (P : ℕ → Type 0) → P 1 → P 2 → P 3 → P 4 → P 5 → P 6 → P 7 → P 8 → P 9 → (k : ℕ) → isKind k ≡ true → P k
+each-kind P p₁ p₂ p₃ p₄ p₅ p₆ p₇ p₈ p₉ zero e = never e
+each-kind P p₁ p₂ p₃ p₄ p₅ p₆ p₇ p₈ p₉ (suc zero) e = p₁
+each-kind P p₁ p₂ p₃ p₄ p₅ p₆ p₇ p₈ p₉ (suc (suc zero)) e = p₂
+each-kind P p₁ p₂ p₃ p₄ p₅ p₆ p₇ p₈ p₉ (suc (suc (suc zero))) e = p₃
+each-kind P p₁ p₂ p₃ p₄ p₅ p₆ p₇ p₈ p₉ (suc (suc (suc (suc zero)))) e = p₄
+each-kind P p₁ p₂ p₃ p₄ p₅ p₆ p₇ p₈ p₉ (suc (suc (suc (suc (suc zero))))) e = p₅
+each-kind P p₁ p₂ p₃ p₄ p₅ p₆ p₇ p₈ p₉ (suc (suc (suc (suc (suc (suc zero)))))) e = p₆
+each-kind P p₁ p₂ p₃ p₄ p₅ p₆ p₇ p₈ p₉ (suc (suc (suc (suc (suc (suc (suc zero))))))) e = p₇
+each-kind P p₁ p₂ p₃ p₄ p₅ p₆ p₇ p₈ p₉ (suc (suc (suc (suc (suc (suc (suc (suc zero)))))))) e = p₈
+each-kind P p₁ p₂ p₃ p₄ p₅ p₆ p₇ p₈ p₉ (suc (suc (suc (suc (suc (suc (suc (suc (suc zero))))))))) e = p₉
+each-kind P p₁ p₂ p₃ p₄ p₅ p₆ p₇ p₈ p₉ (suc (suc (suc (suc (suc (suc (suc (suc (suc (suc k)))))))))) e =
+    absurd (omega (arith, at-most-nine (suc (suc (suc (suc (suc (suc (suc (suc (suc (suc k)))))))))) e))
+
 -- ---- By the kind
 
 pub kinds-named : KindsNamed
@@ -46,29 +70,20 @@ same-record f g s =
 
 -- ---- The record has them
 
-pub known-kind : (k : ℕ) → isKind k ≡ true → (1 ≤ k) × (k ≤ 9)
-known-kind k e = let p = and-true (leb 1 k) (leb k 9) e in (leb-true 1 k (p .0), leb-true k 9 (p .1))
-
--- A test that is false
-pub never : {P : Type 0} → _≡_ {A = Bool} false true → P
-never e = contradiction e refl
-
 has-fields : (k a w : ℕ) → isKind k ≡ true → SameFields (ofKind k a w) (fieldsOf (recordBy (ofKind k a w)))
 unfolding recordBy decoded
-has-fields zero a w e = never e
-has-fields (suc zero) a w e = record { kind = refl; address = λ _. refl; value = λ _. rw mod-mod; word = never }
-has-fields (suc (suc zero)) a w e = record { kind = refl; address = λ _. refl; value = λ _. rw mod-mod; word = never }
-has-fields (suc (suc (suc zero))) a w e = record { kind = refl; address = never; value = λ _. rw mod-mod; word = never }
-has-fields (suc (suc (suc (suc zero)))) a w e = record { kind = refl; address = never; value = λ _. rw mod-mod; word = never }
-has-fields (suc (suc (suc (suc (suc zero))))) a w e = record { kind = refl; address = never; value = λ _. rw mod-mod; word = never }
-has-fields (suc (suc (suc (suc (suc (suc zero)))))) a w e = record { kind = refl; address = never; value = never; word = never }
-has-fields (suc (suc (suc (suc (suc (suc (suc zero))))))) a w e = record { kind = refl; address = never; value = never; word = never }
-has-fields (suc (suc (suc (suc (suc (suc (suc (suc zero)))))))) a w e =
-    record { kind = refl; address = λ _. refl; value = λ _. refl; word = λ _. refl }
-has-fields (suc (suc (suc (suc (suc (suc (suc (suc (suc zero))))))))) a w e =
-    record { kind = refl; address = λ _. refl; value = λ _. refl; word = λ _. refl }
-has-fields (suc (suc (suc (suc (suc (suc (suc (suc (suc (suc k)))))))))) a w e =
-    absurd (omega (arith, known-kind (suc (suc (suc (suc (suc (suc (suc (suc (suc (suc k)))))))))) e .1))
+has-fields k a w =
+    each-kind (λ (n : ℕ). SameFields (ofKind n a w) (fieldsOf (recordBy (ofKind n a w))))
+    (record { kind = refl; address = λ _. refl; value = λ _. rw mod-mod; word = never })
+    (record { kind = refl; address = λ _. refl; value = λ _. rw mod-mod; word = never })
+    (record { kind = refl; address = never; value = λ _. rw mod-mod; word = never })
+    (record { kind = refl; address = never; value = λ _. rw mod-mod; word = never })
+    (record { kind = refl; address = never; value = λ _. rw mod-mod; word = never })
+    (record { kind = refl; address = never; value = never; word = never })
+    (record { kind = refl; address = never; value = never; word = never })
+    (record { kind = refl; address = λ _. refl; value = λ _. refl; word = λ _. refl })
+    (record { kind = refl; address = λ _. refl; value = λ _. refl; word = λ _. refl })
+    k
 
 pub fields-kept : (f : Fields) → FieldsKept f
 fields-kept f = record { unused = same-record f; kept = has-fields (f .kind) (f .address) (f .value) }

@@ -1,5 +1,5 @@
 -- What was read, written again.
-use Prim.Native.Nat.{ℕ, zero, suc, _+_, _-_, _≤_}
+use Prim.Native.Nat.{ℕ, _+_, _-_, _≤_}
 use mathlib.Core.Path.{_≡_, refl, sym, ap, _∙_}
 use mathlib.Core.Bool.{true}
 use mathlib.Core.List.{List}
@@ -19,7 +19,7 @@ use Rattle.recording.specs.Reader.{recordNumber, found, longest, readRec
 use Rattle.recording.specs.Writer.{recordBytes, hasRoom, writeNumber, answered, replaced, WriteRecordGives}
 use Rattle.recording.specs.Written.{EveryReading}
 use Rattle.recording.proofs.Accepted.{accepted-kind, accepted-whole, accepted-address, read-long}
-use Rattle.recording.proofs.Named.{never, known-kind, own-fields, fits-fields}
+use Rattle.recording.proofs.Named.{each-kind, own-fields, fits-fields}
 use Rattle.recording.proofs.Bytes.{kindNumber, read-bytes}
 use Rattle.recording.proofs.Splitting.{short, read-accepted, read-fits}
 use Rattle.recording.proofs.Writing.{gives-number, gives-accepted, accepted-bytes}
@@ -27,18 +27,7 @@ use Rattle.recording.proofs.Writing.{gives-number, gives-accepted, acce
 -- The kind that was decoded
 decoded-kind : (k a v w : ℕ) → isKind k ≡ true → kindNumber (decoded k a v w) ≡ k
 unfolding decoded
-decoded-kind zero a v w e = never e
-decoded-kind (suc zero) a v w e = refl
-decoded-kind (suc (suc zero)) a v w e = refl
-decoded-kind (suc (suc (suc zero))) a v w e = refl
-decoded-kind (suc (suc (suc (suc zero)))) a v w e = refl
-decoded-kind (suc (suc (suc (suc (suc zero))))) a v w e = refl
-decoded-kind (suc (suc (suc (suc (suc (suc zero)))))) a v w e = refl
-decoded-kind (suc (suc (suc (suc (suc (suc (suc zero))))))) a v w e = refl
-decoded-kind (suc (suc (suc (suc (suc (suc (suc (suc zero)))))))) a v w e = refl
-decoded-kind (suc (suc (suc (suc (suc (suc (suc (suc (suc zero))))))))) a v w e = refl
-decoded-kind (suc (suc (suc (suc (suc (suc (suc (suc (suc (suc k)))))))))) a v w e =
-    absurd (omega (arith, known-kind (suc (suc (suc (suc (suc (suc (suc (suc (suc (suc k)))))))))) e .1))
+decoded-kind k a v w = each-kind (λ (n : ℕ). kindNumber (decoded n a v w) ≡ n) refl refl refl refl refl refl refl refl refl k
 
 -- An accepted record by its own fields
 module _ (u : List ℕ) (b : Bytes u) (z : recordNumber u ≡ 0) where

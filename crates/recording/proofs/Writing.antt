@@ -5,7 +5,7 @@ use mathlib.Core.Bool.{Bool, true, false, cond, not, _&&_, _||_}
 use mathlib.Core.List.{List, _++_, append-assoc}
 use native.Mathlib.Omega.{arith}
 use lib.Dec.{leb, eqb}
-use lib.ListN.{length, getD, take, drop, length-append, length-take}
+use lib.ListN.{length, getD, take, drop, replicate, length-append, length-take}
 use lib.Seq.{sets, sets-eq, length-sets, length-take-le, take-at, drop-at, take-append-add}
 use borrow.Author.Tests.{leb-true, ne-eqb}
 use Rattle.words.specs.Tests.{implies}
@@ -28,7 +28,7 @@ use Rattle.recording.proofs.Bytes.{kindNumber, bytes-record, bytes-kind
 use Rattle.recording.proofs.Numbers.{one-address, address-number}
 use Rattle.recording.proofs.Splitting.{read-accepted, drop-take}
 
--- ---- The numbers of some records, by computation
+-- ---- The answers for some records, by computation
 
 -- The writer's numbers where there is no room: unknown kinds, 0x04040020 for a register and 0x03F00000 for memory come first. A BREAK has no address
 pub numbers-of-writes : (writeNumber (ofKind 0 0 0) 0 0 ≡ 7)
@@ -47,6 +47,11 @@ pub room-edges : (writeNumber (ofKind 6 0 0) 0 1 ≡ 0)
     × (writeNumber (ofKind 6 0 0) 0xFFFFFFFFFFFFFFFF 20000 ≡ 14)
 unfolding writeNumber recordBy decoded
 room-edges = (refl, refl, refl, refl, refl)
+
+-- The value is the place after the record
+pub place-after : writeAnswer (ofKind 1 0x04040000 0) 1 (replicate 10 0) ≡ answered 0 10
+unfolding writeAnswer writeNumber recordBy decoded registerAt
+place-after = refl
 
 -- ---- The numbers
 

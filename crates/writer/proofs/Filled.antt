@@ -1,5 +1,5 @@
 -- The steps that fill a part make the bytes of a record.
-use Prim.Native.Nat.{ℕ, zero, suc, _+_, _-_, _/_, _%_, _<_, _≤_}
+use Prim.Native.Nat.{ℕ, _+_, _-_, _/_, _%_, _<_, _≤_}
 use mathlib.Core.Path.{_≡_, refl, sym, ap, _∙_}
 use mathlib.Core.Bool.{Bool, true, false, _&&_}
 use mathlib.Core.List.{List, [], _∷_, _++_, append-nil, append-assoc}
@@ -19,7 +19,7 @@ use Rattle.recording.specs.Kinds.{isKind, size, decoded}
 use Rattle.recording.specs.Fields.{ofKind, low, firstField, recordBy}
 use Rattle.recording.specs.Reader.{longest}
 use Rattle.recording.specs.Writer.{fourBytes, recordBytes, hasRoom, writeNumber, answered, writeAnswer, writeBuffer, WriteRecordGives}
-use Rattle.recording.proofs.Named.{never, known-kind}
+use Rattle.recording.proofs.Named.{each-kind}
 use Rattle.recording.proofs.Bytes.{word-halves}
 use Rattle.recording.proofs.Writing.{own-length, write-passed}
 use Rattle.writer.specs.Parts.{secondField, fourPut}
@@ -90,18 +90,21 @@ module _ (d : List ℕ) (k a v l : ℕ) where
 by-kind : (k a w : ℕ) (d : List ℕ) → isKind k ≡ true → length d ≡ size k
     → puts d k (firstField (ofKind k a w)) (secondField (ofKind k a w)) (w % 0x100000000) ≡ recordBytes (recordBy (ofKind k a w))
 unfolding recordBy decoded
-by-kind zero a w d e h = never e
-by-kind (suc zero) a w d e h = puts-9 d 1 a (w % 0x100000000) (w % 0x100000000) h
-by-kind (suc (suc zero)) a w d e h = puts-9 d 2 a (w % 0x100000000) (w % 0x100000000) h
-by-kind (suc (suc (suc zero))) a w d e h = puts-5 d 3 (w % 0x100000000) (w % 0x100000000) (w % 0x100000000) h
-by-kind (suc (suc (suc (suc zero)))) a w d e h = puts-5 d 4 (w % 0x100000000) (w % 0x100000000) (w % 0x100000000) h
-by-kind (suc (suc (suc (suc (suc zero))))) a w d e h = puts-5 d 5 (w % 0x100000000) (w % 0x100000000) (w % 0x100000000) h
-by-kind (suc (suc (suc (suc (suc (suc zero)))))) a w d e h = puts-1 d 6 a (w % 0x100000000) (w % 0x100000000) h
-by-kind (suc (suc (suc (suc (suc (suc (suc zero))))))) a w d e h = puts-1 d 7 a (w % 0x100000000) (w % 0x100000000) h
-by-kind (suc (suc (suc (suc (suc (suc (suc (suc zero)))))))) a w d e h = rw word-halves (puts-13 d 8 a (w / 0x100000000) (w % 0x100000000) h)
-by-kind (suc (suc (suc (suc (suc (suc (suc (suc (suc zero))))))))) a w d e h = rw word-halves (puts-13 d 9 a (w / 0x100000000) (w % 0x100000000) h)
-by-kind (suc (suc (suc (suc (suc (suc (suc (suc (suc (suc k)))))))))) a w d e h =
-    absurd (omega (arith, known-kind (suc (suc (suc (suc (suc (suc (suc (suc (suc (suc k)))))))))) e .1))
+by-kind k a w d =
+    let l = w % 0x100000000 in
+    each-kind
+    (λ (n : ℕ).
+    length d ≡ size n → puts d n (firstField (ofKind n a w)) (secondField (ofKind n a w)) l ≡ recordBytes (recordBy (ofKind n a w)))
+    (puts-9 d 1 a l l)
+    (puts-9 d 2 a l l)
+    (puts-5 d 3 l l l)
+    (puts-5 d 4 l l l)
+    (puts-5 d 5 l l l)
+    (puts-1 d 6 a l l)
+    (puts-1 d 7 a l l)
+    (λ h. rw word-halves (puts-13 d 8 a (w / 0x100000000) l h))
+    (λ h. rw word-halves (puts-13 d 9 a (w / 0x100000000) l h))
+    k
 
 -- Out of what the steps give
 pub filled : (f : Fields) (d : List ℕ) {d₁ d₂ d₃ d₄ : List ℕ} {a v l : ℕ} → d₁ ≡ set d 0 (f .kind)
