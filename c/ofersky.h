@@ -11,6 +11,7 @@
  *   2 DMEM not 4,096 bytes               7 unknown record kind
  *   3 IMEM not 4,096 bytes               8 record cut short
  *   4 state not sound                    9 recording longer than 16,383 bytes
+ *                                       10 register address not a multiple of 4, checked just before 5
  *                                       14 record does not fit
  */
 #ifndef OFERSKY_H
@@ -88,15 +89,16 @@ typedef struct {
 typedef struct {
     ofersky_outcome outcome; /* its count is the number of accepted records */
     size_t written;          /* bytes of the listing */
+    size_t place;            /* the byte of the recording where the refused record begins; 0 after success and for 9, 1, 2, 3, 4 */
 } ofersky_replayed;
 
 /* As many bytes always suffice for a listing. */
-#define OFERSKY_LISTING_BYTES 69198
+#define OFERSKY_LISTING_BYTES 69204
 
 ofersky_state ofersky_power_up(void);
 bool ofersky_is_sound(ofersky_state s);
 
-/* Registers by address, ticks, a BREAK, the acknowledge of the DP interrupt. Refusals: 4; for registers then 5. */
+/* Registers by address, ticks, a BREAK, the acknowledge of the DP interrupt. Refusals: 4; for registers then 10, 5. */
 ofersky_outcome ofersky_read_register(ofersky_state s, uint32_t address);
 ofersky_outcome ofersky_write_register(ofersky_state s, uint32_t address, uint32_t value);
 ofersky_outcome ofersky_tick(ofersky_state s, uint32_t n);
@@ -117,15 +119,16 @@ ofersky_outcome ofersky_dp_run(ofersky_state s, uint32_t budget, const uint8_t *
 /* Where the word stands that the next DP turn would hand out, or an empty part. It has no number. */
 ofersky_part ofersky_look_ahead(ofersky_state s, const uint8_t *rdram, size_t rdram_bytes, const uint8_t *dmem, size_t dmem_bytes);
 
-/* The record at a place of a recording. Refusals: 9, 7, 8, 5, 6. */
+/* The record at a place of a recording. Refusals: 9, 7, 8; then 10 and 5 for a register's address, 6 for one of memory. */
 ofersky_reading ofersky_read_record(const uint8_t *recording, size_t recording_bytes, size_t place);
 
 /* Appends a record to a buffer from a place on, where the reader finds it again; the value is the place after it, and no other byte differs. Fields that
- * the kind does not have play no part, nor does the upper half of the value in kinds 1 to 5. Refusals: 7, 5, 6; then 14, where the record would
- * end past the buffer or past 16,383 bytes. */
+ * the kind does not have play no part, nor does the upper half of the value in kinds 1 to 5. Refusals: 7; 10, 5 or 6 as in reading; then 14, where
+ * the record would end past the buffer or past 16,383 bytes. */
 ofersky_answer ofersky_write_record(ofersky_record item, uint8_t *buffer, size_t buffer_bytes, size_t place);
 
-/* Replays a recording and writes its listing to out. Refusals: 9, 1, 2, 3, 4 before the first record; then its records': 7, 8, 5, 6. */
+/* Replays a recording and writes its listing to out. It stops at a record that is refused, and what the records before it did stays done.
+ * Refusals: 9, 1, 2, 3, 4 before the first record; then its records': 7, 8, 10, 5, 6. */
 ofersky_replayed ofersky_replay(ofersky_state s, const uint8_t *recording, size_t recording_bytes, uint8_t *rdram, size_t rdram_bytes,
                                 uint8_t *dmem, size_t dmem_bytes, uint8_t *imem, size_t imem_bytes, uint8_t *out, size_t out_bytes);
 

@@ -24,6 +24,7 @@ fn read_at(register: Register, s: State) -> Outcome
             0,
         ),
         Register::Dp(r) => accepted(s, dp_access::read(dp, r), 0),
+        Register::Misaligned => declined(s, 10),
         Register::Unmapped => declined(s, 5),
     }
 }
@@ -36,28 +37,31 @@ fn write_at(register: Register, s: State, v: u32) -> Outcome
     match register {
         Register::Sp(r) => accepted(s.with_sp(sp_access::write(sp, r, v)), 0, 0),
         Register::Dp(r) => accepted(s.with_dp(dp_access::write(dp, r, v)), 0, 0),
+        Register::Misaligned => declined(s, 10),
         Register::Unmapped => declined(s, 5),
     }
 }
 
-// Reads a register. Refusals: 4, 5.
+// Reads a register. Refusals: 4, 10, 5.
 pub fn read_register(s: State, a: u32) -> Outcome
     ensures { λ r. ⌜ ReadGives s a r ⌝ }
 {
-    let number = access_refusal(s, a);
+    let register = register_at(a);
+    let number = access_refusal(s, register);
     if number == 0 {
-        return read_at(register_at(a), s);
+        return read_at(register, s);
     }
     declined(s, number)
 }
 
-// Writes v to a register. Refusals: 4, 5.
+// Writes v to a register. Refusals: 4, 10, 5.
 pub fn write_register(s: State, a: u32, v: u32) -> Outcome
     ensures { λ r. ⌜ WriteGives s a v r ⌝ }
 {
-    let number = access_refusal(s, a);
+    let register = register_at(a);
+    let number = access_refusal(s, register);
     if number == 0 {
-        return write_at(register_at(a), s, v);
+        return write_at(register, s, v);
     }
     declined(s, number)
 }

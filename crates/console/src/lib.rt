@@ -11,7 +11,7 @@ pub fn whole_listing(
     rdram: &mut [u8],
     dmem: &mut [u8],
     imem: &mut [u8],
-    out: &mut [u8; 69198],
+    out: &mut [u8; 69204],
 ) -> usize
     ensures { λ r. ⌜ ListingGives (now (recording .entry)) (memory (now (rdram .entry)) (now (dmem .entry)) (now (imem .entry))) r
         (memory (now (rdram .exit)) (now (dmem .exit)) (now (imem .exit))) (now (out .exit)) ⌝ }
@@ -27,7 +27,7 @@ pub fn listing_from(
     rdram: &mut [u8],
     dmem: &mut [u8],
     imem: &mut [u8],
-    out: &mut [u8; 69198],
+    out: &mut [u8; 69204],
 ) -> usize
     ensures { λ r. ⌜ InputGives (memory (now (rdram .entry)) (now (dmem .entry)) (now (imem .entry))) r
         (memory (now (rdram .exit)) (now (dmem .exit)) (now (imem .exit))) (now (out .exit)) ⌝ }

@@ -17,6 +17,7 @@ hostReplay h s m = replay s (world (decoded h) m)
 -- As `ReplayGives`: the lent bytes at exit are m′, d′ and s′
 pub record HostReplayGives (h : HostState) (s : List ℕ) (m : Memory) (d : List ℕ) (r : HostReplayed) (s′ : List ℕ) (m′ : Memory) (d′ : List ℕ) : Type 0 where
   pub outcome : r .outcome ≡ handed h (hostReplay h s m .outcome)
+  pub place : r .place ≡ hostReplay h s m .place
   pub bytes : m′ ≡ hostReplay h s m .memory
   pub written : r .written ≡ min (length (hostReplay h s m .text)) (length d)
   pub listing : d′ ≡ take (length d) (hostReplay h s m .text) ++ drop (length (hostReplay h s m .text)) d

@@ -82,4 +82,5 @@ pub struct HostReading {
 pub struct HostReplayed {
     pub outcome: HostOutcome,
     pub written: usize,
+    pub place: usize,
 }

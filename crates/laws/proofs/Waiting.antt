@@ -26,10 +26,10 @@ use Rattle.sp.proofs.Left.{left-busy}
 use Rattle.machine.specs.declared.State.{State}
 use Rattle.machine.specs.declared.Outcome.{Outcome}
 use Rattle.machine.specs.declared.Register.{Register}
-use Rattle.machine.specs.declared.Register.the-variants.{Sp, Dp, Unmapped}
+use Rattle.machine.specs.declared.Register.the-variants.{Sp, Dp, Misaligned, Unmapped}
 use Rattle.machine.specs.Sound.{powerUp, withSp, sound}
 use Rattle.machine.specs.Address.{registerAt, addresses}
-use Rattle.machine.specs.Refusals.{check, isRegister, accessRefusal, stateRefusal, spRefusal, dpRefusal, accepted, declined, ifRefused}
+use Rattle.machine.specs.Refusals.{isRegister, registerNumber, accessRefusal, stateRefusal, spRefusal, dpRefusal, accepted, declined, ifRefused}
 use Rattle.machine.specs.Calls.{readAt, writeAt, readRegister, writeRegister, tick, break, acknowledge}
 use Rattle.machine.specs.Turns.{spTurn, dpTurn}
 use Rattle.machine.specs.Runs.{spRun, dpRun}
@@ -51,6 +51,7 @@ notes (Sp SpReg.DmaFull) v w = w
 notes (Sp SpReg.DmaBusy) v w = w
 notes (Sp SpReg.Semaphore) v w = w
 notes (Dp r) v w = w
+notes Misaligned v w = w
 notes Unmapped v w = w
 
 abbrev takesLength : Register → Bool
@@ -63,11 +64,13 @@ takesLength (Sp SpReg.DmaFull) = false
 takesLength (Sp SpReg.DmaBusy) = false
 takesLength (Sp SpReg.Semaphore) = false
 takesLength (Dp r) = false
+takesLength Misaligned = false
 takesLength Unmapped = false
 
 abbrev spWritten : Register → SpState → ℕ → SpState
 spWritten (Sp r) s v = spWrite r s v
 spWritten (Dp r) s v = s
+spWritten Misaligned s v = s
 spWritten Unmapped s v = s
 
 -- Two functions that agree on a list agree on each of its elements
@@ -75,11 +78,18 @@ same-on : {A : Type 0} (f g : ℕ → A) (l : List ℕ) (a : ℕ) → map f l �
 same-on f g (x ∷ l) a e (List·Memᴰ·head p) = ap f p ∙ ap (λ k. getD k 0 (f x)) e ∙ ap g (sym p)
 same-on f g (x ∷ l) a e (List·Memᴰ·tail h) = same-on f g l a (ap (drop 1) e) h
 
--- Unmapped addresses are none of the sixteen
-unmapped : (r : Register) → isRegister r ≡ false → r ≡ Unmapped
-unmapped (Sp r) e = contradiction refl e
-unmapped (Dp r) e = contradiction refl e
-unmapped Unmapped e = refl
+-- Where no register stands, nothing is written
+none-noted : (r : Register) (v : ℕ) (w : Written) → isRegister r ≡ false → w ≡ notes r v w
+none-noted (Sp r) v w e = contradiction refl e
+none-noted (Dp r) v w e = contradiction refl e
+none-noted Misaligned v w e = refl
+none-noted Unmapped v w e = refl
+
+none-taken : (r : Register) → isRegister r ≡ false → false ≡ takesLength r
+none-taken (Sp r) e = contradiction refl e
+none-taken (Dp r) e = contradiction refl e
+none-taken Misaligned e = refl
+none-taken Unmapped e = refl
 
 other : (a x : ℕ) → isRegister (registerAt x) ≡ true → isRegister (registerAt a) ≡ false → eqb a x ≡ false
 other a x p q = ne-eqb a x (λ e. contradiction p (ap (λ (b : ℕ). isRegister (registerAt b)) (sym e) ∙ q))
@@ -92,7 +102,7 @@ notes-at a v w =
     (λ e. same-on (λ x. noted x v w) (λ x. notes (registerAt x) v w) addresses a refl (sixteen a .0 e))
     (λ e.
     rw (other a 0x04040000 refl e, other a 0x04040004 refl e, other a 0x04040008 refl e, other a 0x0404000C refl e)
-    (ap (λ (r : Register). notes r v w) (sym (unmapped (registerAt a) e))))
+    (none-noted (registerAt a) v w e))
 
 length-at : (a : ℕ) → (eqb a 0x04040008 || eqb a 0x0404000C) ≡ takesLength (registerAt a)
 unfolding registerAt
@@ -101,16 +111,17 @@ length-at a =
     (λ e. same-on (λ x. eqb x 0x04040008 || eqb x 0x0404000C) (λ x. takesLength (registerAt x)) addresses a refl (sixteen a .0 e))
     (λ e.
     rw (other a 0x04040008 refl e, other a 0x0404000C refl e)
-    (ap (λ (r : Register). takesLength r) (sym (unmapped (registerAt a) e))))
+    (none-taken (registerAt a) e))
 
 -- A write to a sound state
 write-leaves : (s : State) (a v : ℕ) → sound s ≡ true → writeRegister s a v .state .sp ≡ spWritten (registerAt a) (s .sp) v
 unfolding writeRegister accessRefusal
 write-leaves s a v e = rw e (at (registerAt a))
   where
-    at : (r : Register) → ifRefused (check (isRegister r) 5 0) (declined s (check (isRegister r) 5 0)) (writeAt r s v) .state .sp ≡ spWritten r (s .sp) v
+    at : (r : Register) → ifRefused (registerNumber r) (declined s (registerNumber r)) (writeAt r s v) .state .sp ≡ spWritten r (s .sp) v
     at (Sp r) = refl
     at (Dp r) = refl
+    at Misaligned = refl
     at Unmapped = refl
 
 -- ---- What was last written, and the registers
@@ -168,6 +179,7 @@ read-still (Sp SpReg.DmaFull) s = nothing (s .sp)
 read-still (Sp SpReg.DmaBusy) s = nothing (s .sp)
 read-still (Sp SpReg.Semaphore) s = others (s .sp) (withSemaphore (s .sp) true) (search) refl refl
 read-still (Dp r) s = nothing (s .sp)
+read-still Misaligned s = nothing (s .sp)
 read-still Unmapped s = nothing (s .sp)
 
 -- A call that may be declined
@@ -188,6 +200,7 @@ write-still (Sp SpReg.DmaFull) s v l = nothing s
 write-still (Sp SpReg.DmaBusy) s v l = nothing s
 write-still (Sp SpReg.Semaphore) s v l = others s (withSemaphore s false) (search) refl refl
 write-still (Dp r) s v l = nothing s
+write-still Misaligned s v l = nothing s
 write-still Unmapped s v l = nothing s
 
 -- A write of v to s at an address of the register r
@@ -215,6 +228,7 @@ write-effect a v f s h = at (registerAt a) (record { leaves = write-leaves s a v
     at (Sp SpReg.DmaBusy) p = short (Sp SpReg.DmaBusy) refl p
     at (Sp SpReg.Semaphore) p = short (Sp SpReg.Semaphore) refl p
     at (Dp r) p = short (Dp r) refl p
+    at Misaligned p = short Misaligned refl p
     at Unmapped p = short Unmapped refl p
 
 -- An SP turn or run leaves what its turns leave; declined, it takes none

@@ -15,10 +15,10 @@ fn hex_digit(n: u64) -> u8
 }
 
 // The last decimal digit of a number.
-fn decimal_digit(n: u32) -> u8
+fn decimal_digit(n: usize) -> u8
     ensures { λ r. ⌜ r ≡ decimalDigit n ⌝ }
 {
-    DIGITS[(n % 10) as usize]
+    DIGITS[n % 10]
 }
 
 // The last eight hex digits of a number.
@@ -50,7 +50,7 @@ pub(crate) fn put_hex(out: &mut [u8], at: usize, word: bool, n: u64) -> usize
 }
 
 // The last decimal digit of a number; no digit for 0.
-fn put_leading(out: &mut [u8], at: usize, n: u32) -> usize
+fn put_leading(out: &mut [u8], at: usize, n: usize) -> usize
     ensures { λ r. ⌜ Put (now (out .entry)) at (leading n) (now (out .exit)) r ⌝ }
 {
     if n == 0 {
@@ -61,7 +61,7 @@ fn put_leading(out: &mut [u8], at: usize, n: u32) -> usize
 }
 
 // A number below 100,000 in decimal.
-pub(crate) fn put_decimal(out: &mut [u8], at: usize, n: u32) -> usize
+pub(crate) fn put_decimal(out: &mut [u8], at: usize, n: usize) -> usize
     ensures { λ r. ⌜ Put (now (out .entry)) at (decimal n) (now (out .exit)) r ⌝ }
 {
     let p1 = put_leading(out, at, n / 10000);

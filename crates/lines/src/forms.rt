@@ -60,17 +60,19 @@ pub fn put_end(out: &mut [u8], at: usize, count: u32) -> usize
     ensures { λ r. ⌜ Put (now (out .entry)) at (endLine count) (now (out .exit)) r ⌝ }
 {
     let p1 = put(out, at, b"end ");
-    let p2 = put_decimal(out, p1, count);
+    let p2 = put_decimal(out, p1, count as usize);
     put(out, p2, b"\n")
 }
 
-// The last line where a record was declined: which one, and its number.
-pub fn put_stop(out: &mut [u8], at: usize, count: u32, number: u32) -> usize
-    ensures { λ r. ⌜ Put (now (out .entry)) at (stopLine count number) (now (out .exit)) r ⌝ }
+// The last line where a record was declined: which one, its number, and the place where it begins.
+pub fn put_stop(out: &mut [u8], at: usize, count: u32, number: u32, place: usize) -> usize
+    ensures { λ r. ⌜ Put (now (out .entry)) at (stopLine count number place) (now (out .exit)) r ⌝ }
 {
     let p1 = put(out, at, b"stop ");
-    let p2 = put_decimal(out, p1, count);
+    let p2 = put_decimal(out, p1, count as usize);
     let p3 = put(out, p2, b" ");
-    let p4 = put_decimal(out, p3, number);
-    put(out, p4, b"\n")
+    let p4 = put_decimal(out, p3, number as usize);
+    let p5 = put(out, p4, b" ");
+    let p6 = put_decimal(out, p5, place);
+    put(out, p6, b"\n")
 }

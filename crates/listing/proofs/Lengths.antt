@@ -54,6 +54,6 @@ pub length-end : (n : ℕ) → length (endLine n) ≤ 10
 unfolding endLine
 length-end n = simp length-append (omega (arith, length-decimal n))
 
-pub length-stop : (n k : ℕ) → length (stopLine n k) ≤ 17
+pub length-stop : (n k p : ℕ) → length (stopLine n k p) ≤ 23
 unfolding stopLine
-length-stop n k = simp length-append (omega (arith, length-decimal n, length-decimal k))
+length-stop n k p = simp length-append (omega (arith, length-decimal n, length-decimal k, length-decimal p))

@@ -99,9 +99,9 @@ foundLine letter word address found expected = head letter ++ hex8 address ++ sp
 unfoldable pub endLine : ℕ → Text
 endLine count = endText ++ decimal count ++ newline
 
--- `stop`, the zero-based record and the number
-unfoldable pub stopLine : ℕ → ℕ → Text
-stopLine count number = stopText ++ decimal count ++ space ++ decimal number ++ newline
+-- `stop`, the zero-based record, the number and the place where the record begins
+unfoldable pub stopLine : ℕ → ℕ → ℕ → Text
+stopLine count number place = stopText ++ decimal count ++ space ++ decimal number ++ space ++ decimal place ++ newline
 
 -- ---- What is proved of it
 

@@ -9,19 +9,21 @@ use lib.Dec.{leb, eqb}
 use lib.ListN.{length}
 use borrow.Author.Tests.{leb-true, le-leb, eqb-true, eq-eqb, ne-eqb}
 use Rattle.words.specs.Memory.{Memory}
+use Rattle.words.specs.Tests.{implies}
 use Rattle.words.proofs.Tests.{contradiction, and-true, true-and, three}
 use Rattle.machine.specs.declared.State.{State}
 use Rattle.machine.specs.declared.Outcome.{Outcome}
 use Rattle.machine.specs.declared.Register.{Register}
-use Rattle.machine.specs.declared.Register.the-variants.{Sp, Dp, Unmapped}
+use Rattle.machine.specs.declared.Register.the-variants.{Sp, Dp, Misaligned, Unmapped}
 use Rattle.machine.specs.Sound.{sound}
-use Rattle.machine.specs.Address.{registerAt}
-use Rattle.machine.specs.Refusals.{check, rdramAllowed, bankAllowed, isRegister, stateRefusal, accessRefusal, spRefusal, dpRefusal, declined, ifRefused, Given, Answers}
+use Rattle.machine.specs.Address.{aligned, registerAt}
+use Rattle.machine.specs.Refusals.{check, rdramAllowed, bankAllowed, isRegister, registerNumber, stateRefusal, accessRefusal, spRefusal, dpRefusal, declined, ifRefused, Given, tenAsFive, Answers}
 use Rattle.machine.specs.Calls.{readAt, writeAt, readRegister, writeRegister, tick, break, acknowledge}
 use Rattle.machine.specs.Turns.{spTurn, spTurnMemory, dpTurn}
 use Rattle.machine.specs.Runs.{spRun, spRunMemory, dpRun, dpRunOutput}
 use Rattle.machine.specs.Look.{look, emptyOf}
 use Rattle.machine.specs.Accepted.{Gives}
+use Rattle.machine.proofs.Address.{register-number, register-aligned, address-given}
 
 -- ---- The lengths that are allowed
 
@@ -37,36 +39,54 @@ bank-length n = (eqb-true n 4096, eq-eqb n 4096)
 
 -- ---- The numbers
 
-first-fails : (a b c d e : Bool) → Given (check a 1 (check b 2 (check c 3 (check d 4 (check e 5 0))))) a b c d e
-first-fails false b c d e = search
-first-fails true false c d e = search
-first-fails true true false d e = search
-first-fails true true true false e = search
-first-fails true true true true false = search
-first-fails true true true true true = search
+first-fails : (a b c d e f : Bool) → implies f e ≡ true → Given (check a 1 (check b 2 (check c 3 (check d 4 (check e 10 (check f 5 0)))))) a b c d e f
+first-fails false b c d e f h = search
+first-fails true false c d e f h = search
+first-fails true true false d e f h = search
+first-fails true true true false e f h = search
+first-fails true true true true false true h = contradiction h refl
+first-fails true true true true false false h = search
+first-fails true true true true true false h = search
+first-fails true true true true true true h = search
 
 -- Of a call that takes the state alone
-pub state-number : (s : State) → Given (stateRefusal s) true true true (sound s) true
+pub state-number : (s : State) → Given (stateRefusal s) true true true (sound s) true true
 unfolding stateRefusal
-state-number s = first-fails true true true (sound s) true
+state-number s = first-fails true true true (sound s) true true refl
 
 -- Of a register access
-pub access-number : (s : State) (a : ℕ) → Given (accessRefusal s a) true true true (sound s) (isRegister (registerAt a))
+pub access-number : (s : State) (a : ℕ) → Given (accessRefusal s a) true true true (sound s) (aligned a) (isRegister (registerAt a))
 unfolding accessRefusal
-access-number s a = first-fails true true true (sound s) (isRegister (registerAt a))
+access-number s a =
+    rw (register-number a)
+    (first-fails true true true (sound s) (aligned a) (isRegister (registerAt a)) (register-aligned a))
+
+-- By what stands at the address
+pub access-at : (s : State) (a : ℕ) {n : ℕ} {r : Register} → n ≡ check (sound s) 4 (registerNumber r) → r ≡ registerAt a → n ≡ accessRefusal s a
+unfolding accessRefusal
+access-at s a e f = e ∙ ap (λ (x : Register). check (sound s) 4 (registerNumber x)) f
+
+-- With 10 read as 5 it is what it was when 5 stood for both
+pub access-as-before : (s : State) (a : ℕ) → tenAsFive (accessRefusal s a) ≡ check (sound s) 4 (check (isRegister (registerAt a)) 5 0)
+unfolding accessRefusal
+access-as-before s a = go (sound s)
+  where
+    go : (b : Bool) → tenAsFive (check b 4 (registerNumber (registerAt a))) ≡ check b 4 (check (isRegister (registerAt a)) 5 0)
+    go true = address-given a .asBefore
+    go false = refl
 
 -- Of an SP turn or run
 pub sp-number : (s : State) (m : Memory)
-    → Given (spRefusal s m) (rdramAllowed (length (m .rdram))) (bankAllowed (length (m .dmem))) (bankAllowed (length (m .imem))) (sound s) true
+    → Given (spRefusal s m) (rdramAllowed (length (m .rdram))) (bankAllowed (length (m .dmem))) (bankAllowed (length (m .imem))) (sound s) true true
 unfolding spRefusal
 sp-number s m =
-    first-fails (rdramAllowed (length (m .rdram))) (bankAllowed (length (m .dmem))) (bankAllowed (length (m .imem))) (sound s) true
+    first-fails (rdramAllowed (length (m .rdram))) (bankAllowed (length (m .dmem))) (bankAllowed (length (m .imem))) (sound s) true true refl
 
 -- Of a DP turn or run, and of a look
 pub dp-number : (s : State) (rdram dmem : List ℕ)
-    → Given (dpRefusal s rdram dmem) (rdramAllowed (length rdram)) (bankAllowed (length dmem)) true (sound s) true
+    → Given (dpRefusal s rdram dmem) (rdramAllowed (length rdram)) (bankAllowed (length dmem)) true (sound s) true true
 unfolding dpRefusal
-dp-number s rdram dmem = first-fails (rdramAllowed (length rdram)) (bankAllowed (length dmem)) true (sound s) true
+dp-number s rdram dmem = first-fails (rdramAllowed (length rdram)) (bankAllowed (length dmem)) true (sound s) true true refl
 
 -- What number 0 says of the input
 pub sp-checked : (s : State) (m : Memory) → spRefusal s m ≡ 0 → sound s ≡ true
@@ -114,11 +134,13 @@ declined-gives n s o h k e = rw (h .refused k e) (search)
 read-succeeds : (r : Register) (s : State) → isRegister r ≡ true → readAt r s .answer .number ≡ 0
 read-succeeds (Sp r) s e = refl
 read-succeeds (Dp r) s e = refl
+read-succeeds Misaligned s e = contradiction e refl
 read-succeeds Unmapped s e = contradiction e refl
 
 write-succeeds : (r : Register) (s : State) (v : ℕ) → isRegister r ≡ true → writeAt r s v .answer .number ≡ 0
 write-succeeds (Sp r) s v e = refl
 write-succeeds (Dp r) s v e = refl
+write-succeeds Misaligned s v e = contradiction e refl
 write-succeeds Unmapped s v e = contradiction e refl
 
 -- An access that passes its checks is to a register

@@ -6,11 +6,15 @@ use lib.Dec.{ltb, leb, eqb}
 use Rattle.sp.specs.Registers.{spRegister}
 use Rattle.dp.specs.Registers.{dpRegister}
 use Rattle.machine.specs.declared.Register.{Register}
-use Rattle.machine.specs.declared.Register.the-variants.{Sp, Dp, Unmapped}
+use Rattle.machine.specs.declared.Register.the-variants.{Sp, Dp, Misaligned, Unmapped}
 
--- One of the eight addresses from base upward by 4
+-- A multiple of 4
+abbrev pub aligned : ℕ → Bool
+aligned a = eqb (a % 4) 0
+
+-- In the block of eight registers from base upward by 4
 abbrev pub inBlock : ℕ → ℕ → Bool
-inBlock base a = leb base a && ltb a (base + 0x20) && eqb (a % 4) 0
+inBlock base a = leb base a && ltb a (base + 0x20)
 
 -- The register's place in its block, which begins at a multiple of 0x20
 abbrev pub registerIndex : ℕ → ℕ
@@ -18,8 +22,10 @@ registerIndex a = a % 0x20 / 4
 
 unfoldable pub registerAt : ℕ → Register
 registerAt a =
-    cond (inBlock 0x04040000 a) (Sp (spRegister (registerIndex a)))
-    (cond (inBlock 0x04100000 a) (Dp (dpRegister (registerIndex a))) Unmapped)
+    cond (aligned a)
+    (cond (inBlock 0x04040000 a) (Sp (spRegister (registerIndex a)))
+    (cond (inBlock 0x04100000 a) (Dp (dpRegister (registerIndex a))) Unmapped))
+    Misaligned
 
 -- The sixteen register addresses, one by one
 abbrev pub addresses : List ℕ

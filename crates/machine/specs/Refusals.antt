@@ -2,16 +2,17 @@
 use Prim.Native.Nat.{ℕ, zero, suc, _%_}
 use mathlib.Core.Path.{_≡_}
 use mathlib.Core.Bool.{Bool, true, false, not, cond, _&&_}
-use mathlib.Core.List.{List}
+use mathlib.Core.Logic.{_↔_}
+use mathlib.Core.List.{List, List·Memᴰ}
 use lib.Dec.{leb, eqb}
 use lib.ListN.{length}
 use Rattle.words.specs.Memory.{Memory}
 use Rattle.machine.specs.declared.State.{State}
 use Rattle.machine.specs.declared.Outcome.{Outcome}
 use Rattle.machine.specs.declared.Register.{Register}
-use Rattle.machine.specs.declared.Register.the-variants.{Sp, Dp, Unmapped}
+use Rattle.machine.specs.declared.Register.the-variants.{Sp, Dp, Misaligned, Unmapped}
 use Rattle.machine.specs.Sound.{sound}
-use Rattle.machine.specs.Address.{registerAt}
+use Rattle.machine.specs.Address.{aligned, registerAt, addresses}
 
 -- The number n where a check fails, else what the later checks give
 abbrev pub check : Bool → ℕ → ℕ → ℕ
@@ -27,7 +28,15 @@ bankAllowed n = eqb n 4096
 abbrev pub isRegister : Register → Bool
 isRegister (Sp r) = true
 isRegister (Dp r) = true
+isRegister Misaligned = false
 isRegister Unmapped = false
+
+-- The number for what stands at an address: 10, then 5
+abbrev pub registerNumber : Register → ℕ
+registerNumber (Sp r) = 0
+registerNumber (Dp r) = 0
+registerNumber Misaligned = 10
+registerNumber Unmapped = 5
 
 -- Of a call that takes the state alone
 unfoldable pub stateRefusal : State → ℕ
@@ -35,7 +44,7 @@ stateRefusal s = check (sound s) 4 0
 
 -- Of a register access
 unfoldable pub accessRefusal : State → ℕ → ℕ
-accessRefusal s a = check (sound s) 4 (check (isRegister (registerAt a)) 5 0)
+accessRefusal s a = check (sound s) 4 (registerNumber (registerAt a))
 
 -- Of a call that takes RDRAM, DMEM and IMEM
 unfoldable pub spRefusal : State → Memory → ℕ
@@ -71,15 +80,28 @@ ifRefused (suc n) refused done = refused
 
 -- ---- What is proved of the numbers and of declined calls
 
--- The number n is that of the first check that fails, in the order of paper 01, and 0 if none does. An input that a call does not take
+-- The number n is that of the first check that fails, in the order of the papers, and 0 if none does. An input that a call does not take
 -- counts as good
-pub record Given (n : ℕ) (rdram dmem imem state register : Bool) : Type 0 where
+pub record Given (n : ℕ) (rdram dmem imem state multiple register : Bool) : Type 0 where
   pub rdramNumber : eqb n 1 ≡ not rdram
   pub dmemNumber : eqb n 2 ≡ rdram && not dmem
   pub imemNumber : eqb n 3 ≡ rdram && dmem && not imem
   pub stateNumber : eqb n 4 ≡ rdram && dmem && imem && not state
-  pub registerNumber : eqb n 5 ≡ rdram && dmem && imem && state && not register
+  pub alignedNumber : eqb n 10 ≡ rdram && dmem && imem && state && not multiple
+  pub mappedNumber : eqb n 5 ≡ rdram && dmem && imem && state && multiple && not register
   pub success : eqb n 0 ≡ rdram && dmem && imem && state && register
+
+-- The number with 10 read as 5: the one that was given when 5 stood for both
+abbrev pub tenAsFive : ℕ → ℕ
+tenAsFive n = cond (eqb n 10) 5 n
+
+-- Of an address where a register is due: 10 exactly where it is not a multiple of 4, 5 exactly where it is one and no register stands there
+pub record AddressGiven (a : ℕ) : Type 0 where
+  pub alignedNumber : eqb (registerNumber (registerAt a)) 10 ≡ not (aligned a)
+  pub mappedNumber : eqb (registerNumber (registerAt a)) 5 ≡ aligned a && not (isRegister (registerAt a))
+  -- It is refused exactly where it is none of the sixteen, as when 5 stood for both
+  pub accepted : (registerNumber (registerAt a) ≡ 0) ↔ List·Memᴰ a addresses
+  pub asBefore : tenAsFive (registerNumber (registerAt a)) ≡ check (isRegister (registerAt a)) 5 0
 
 -- It answers that number. If the number is not 0, the value is 0, the count is 0 and the state is as handed in
 pub record Answers (n : ℕ) (s : State) (o : Outcome) : Type 0 where

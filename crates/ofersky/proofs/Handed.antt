@@ -1,6 +1,6 @@
 -- What a call for a host gives, out of what the calls in its body give.
 use Prim.Native.Nat.{ℕ, _%_}
-use mathlib.Core.Path.{_≡_, refl, sym, ap, _∙_}
+use mathlib.Core.Path.{_≡_, refl, ap, _∙_}
 use mathlib.Core.Bool.{Bool, true, false, cond, _&&_}
 use mathlib.Core.List.{List}
 use lib.Dec.{eqb}
@@ -20,7 +20,6 @@ use Rattle.playback.specs.Promised.{ReplayGives}
 use Rattle.host.specs.declared.HostState.{HostState}
 use Rattle.host.specs.declared.HostOutcome.{HostOutcome}
 use Rattle.host.specs.declared.HostPart.{HostPart}
-use Rattle.host.specs.declared.HostReplayed.{HostReplayed}
 use Rattle.host.specs.States.{decoded, handed}
 use Rattle.host.specs.Parts.{placed, partHanded}
 use Rattle.host.specs.Promised.{HostReplayGives}
@@ -63,11 +62,12 @@ look-given h {s} {rdram} {dmem} {r} d g e =
 
 pub replay-given : {h : HostState} {state : State} {s : List ℕ} {m : Memory} {d : List ℕ} {p : Replayed} {r : HostOutcome} {s′ : List ℕ} {m′ : Memory} {d′ : List ℕ}
     → state ≡ decoded h → ReplayGives state s m d p s′ m′ d′ → r ≡ handed h (p .outcome)
-    → HostReplayGives h s m d (record { outcome = r; written = p .written }) s′ m′ d′
+    → HostReplayGives h s m d (record { outcome = r; written = p .written; place = p .place }) s′ m′ d′
 replay-given {h} {state} {s} {m} {d} {p} {r} {s′} {m′} {d′} e g o =
     let q : ReplayGives (decoded h) s m d p s′ m′ d′ = rw e at g in
     record {
       outcome = o ∙ ap (handed h) (q .outcome);
+      place = q .place;
       bytes = q .bytes;
       written = q .written;
       listing = q .listing;

@@ -55,5 +55,6 @@ pub extern "C" fn ofersky_replay(
     HostReplayed {
         outcome,
         written: done.written,
+        place: done.place,
     }
 }

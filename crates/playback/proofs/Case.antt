@@ -31,11 +31,12 @@ use Rattle.playback.specs.Case.{bytes, start, text, stopBytes, stopText}
 pub whole-case : (replay bytes start .text ≡ text)
     × (replay bytes start .outcome .answer .number ≡ 0)
     × (replay bytes start .outcome .answer .count ≡ 4)
+    × (replay bytes start .place ≡ 0)
 unfolding bytes start text replay replayRefusal spRefusal accessRefusal sound spSound dpSound registerAt
     splitFrom recordNumber recordOf decoded lines after line writeRegister readRegister
     spRun spTaken spAfter spNext started lengthWritten nextWord ended
     runLine foundLine verdict hex decimal leading endLine
-whole-case = (refl, refl, refl)
+whole-case = (refl, refl, refl, refl)
 
 -- 9 before 1: a recording of 16,384 bytes over an RDRAM of one byte
 pub nine-first : replayRefusal (replicate 16384 6) (world powerUp (memory (0 ∷ []) [] [])) ≡ 9
@@ -45,11 +46,12 @@ nine-first = refl
 pub stop-case : (replay stopBytes start .text ≡ stopText)
     × (replay stopBytes start .outcome .answer .number ≡ 7)
     × (replay stopBytes start .outcome .answer .count ≡ 3)
+    × (replay stopBytes start .place ≡ 31)
 unfolding stopBytes start stopText replay replayRefusal spRefusal dpRefusal sound spSound dpSound
     splitFrom recordNumber recordOf decoded lines after line loadAt storeAt loadWord storeWord bytesAt wordValue wordBytes
     dpRun dpTaken dpAfter
     runLine foundLine verdict hex decimal leading stopLine
-stop-case = (refl, refl, refl)
+stop-case = (refl, refl, refl, refl)
 
 -- The writer makes the case's recording of its four records, in a buffer that has just as many bytes
 pub case-appended : Appends (replicate 32 0) 0 (Write 0x04040000 0x1FF8 ∷ Write 0x04040008 0x0F ∷ SpRun 2 ∷ Read 0x04040000 0x1008 ∷ []) bytes 32

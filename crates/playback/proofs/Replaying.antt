@@ -1,29 +1,29 @@
 -- The theorem of every replay.
 use Prim.Native.Nat.{ℕ, zero, suc, _≤_, min}
 use mathlib.Core.Path.{_≡_, refl, sym, ap, _∙_}
-use mathlib.Core.Bool.{true}
+use mathlib.Core.Bool.{Bool, true, false}
 use mathlib.Core.List.{List, _++_}
 use native.Mathlib.Omega.{arith}
 use lib.Dec.{ltb, eqb}
 use lib.ListN.{length, take, drop, length-take}
 use lib.Seq.{take-all, take-append-seam, drop-append-seam}
-use borrow.Author.Tests.{le-leb, lt-leb, ltb-true, ltb-false, eq-eqb, ne-eqb}
+use borrow.Author.Tests.{le-leb, lt-leb, ltb-true, ltb-false, eq-eqb}
 use Rattle.words.specs.Memory.{Memory, Place, bytesOf}
 use Rattle.words.proofs.Tests.{by}
 use Rattle.machine.specs.declared.State.{State}
 use Rattle.machine.specs.declared.Outcome.{Outcome}
 use Rattle.machine.specs.Sound.{sound}
-use Rattle.machine.specs.Refusals.{rdramAllowed, bankAllowed, spRefusal, declined}
+use Rattle.machine.specs.Refusals.{check, rdramAllowed, bankAllowed, spRefusal, declined, ifRefused}
+use Rattle.machine.proofs.Refusals.{if-accepted, if-refused}
 use Rattle.laws.specs.World.{World, world}
 use Rattle.recording.specs.declared.Record.{Record}
 use Rattle.recording.specs.Kinds.{Bytes}
-use Rattle.recording.specs.Reader.{longest}
+use Rattle.recording.specs.Reader.{longest, readRecord}
 use Rattle.recording.specs.Split.{split}
-use Rattle.recording.proofs.Numbers.{small}
-use Rattle.recording.proofs.Splitting.{read-on, accepted-alone, items-fit, numbers}
-use Rattle.listing.specs.Text.{header, stopLine}
+use Rattle.recording.proofs.Splitting.{read-on, declined-at, accepted-alone, items-fit, ends-not-nine}
+use Rattle.listing.specs.Text.{Text, header, stopLine}
 use Rattle.playback.specs.declared.Replayed.{Replayed}
-use Rattle.playback.specs.Replay.{Played, afterAll, ending, replayRefusal, replay}
+use Rattle.playback.specs.Replay.{Played, afterAll, lines, lastLine, ending, replayRefusal, replay}
 use Rattle.playback.specs.Promised.{ReplayGives}
 use Rattle.playback.specs.Theorems.{SameLeft, Begun, longestListing, EveryReplay}
 use Rattle.playback.proofs.Steps.{short-enough, replay-begun, replay-not}
@@ -33,13 +33,16 @@ use Rattle.playback.proofs.Sounds.{items-accepted, all-keep-sound, all-
 -- ---- The checks before the first record
 
 -- The number 9 stands for the recording's length alone
-sp-at-most : (s : State) (m : Memory) → spRefusal s m ≤ 8
+sp-not-nine : (s : State) (m : Memory) → eqb (spRefusal s m) 9 ≡ false
 unfolding spRefusal
-sp-at-most s m =
-    small (rdramAllowed (length (m .rdram))) 1 _ (omega arith)
-    (small (bankAllowed (length (m .dmem))) 2 _ (omega arith)
-    (small (bankAllowed (length (m .imem))) 3 _ (omega arith)
-    (small (sound s) 4 0 (omega arith) (omega arith))))
+sp-not-nine s m = go (rdramAllowed (length (m .rdram))) (bankAllowed (length (m .dmem))) (bankAllowed (length (m .imem))) (sound s)
+  where
+    go : (a b c d : Bool) → eqb (check a 1 (check b 2 (check c 3 (check d 4 0)))) 9 ≡ false
+    go false b c d = refl
+    go true false c d = refl
+    go true true false d = refl
+    go true true true false = refl
+    go true true true true = refl
 
 pub refusal-short : (s : List ℕ) (w : World) → length s ≤ longest → replayRefusal s w ≡ spRefusal (w .state) (w .memory)
 unfolding replayRefusal
@@ -70,10 +73,11 @@ by-refusal (suc n) f g = g n refl
 module _ (state : State) (s : List ℕ) (m : Memory) (d : List ℕ) (r : Replayed) (s′ : List ℕ) (m′ : Memory) (d′ : List ℕ)
     (g : ReplayGives state s m d r s′ m′ d′) where
   -- One that does not begin
-  not-begun : (n : ℕ) → replayRefusal s (world state m) ≡ suc n → (r .outcome ≡ declined state (suc n)) × (m′ ≡ m)
+  not-begun : (n : ℕ) → replayRefusal s (world state m) ≡ suc n → (r .outcome ≡ declined state (suc n)) × (r .place ≡ 0) × (m′ ≡ m)
   not-begun n e =
       let q = replay-not s (world state m) (λ z. omega arith) in (
         g .outcome ∙ ap (λ (x : Played). x .outcome) q ∙ ap (declined state) e,
+        g .place ∙ ap (λ (x : Played). x .place) q,
         g .bytes ∙ ap (λ (x : Played). x .memory) q,
       )
 
@@ -82,15 +86,18 @@ module _ (state : State) (s : List ℕ) (m : Memory) (d : List ℕ) (r : Replaye
       → r .outcome ≡ ending (afterAll (split s .items) (world state m) .state) (split s .number) (length (split s .items))
   begun-outcome z = g .outcome ∙ ap (λ (x : Played). x .outcome) (replay-begun s (world state m) z)
 
+  pub begun-place : replayRefusal s (world state m) ≡ 0 → r .place ≡ ifRefused (split s .number) (split s .place) 0
+  begun-place z = g .place ∙ ap (λ (x : Played). x .place) (replay-begun s (world state m) z)
+
   pub begun-memory : replayRefusal s (world state m) ≡ 0 → m′ ≡ afterAll (split s .items) (world state m) .memory
   begun-memory z = g .bytes ∙ ap (λ (x : Played). x .memory) (replay-begun s (world state m) z)
 
   -- The number of a short recording's replay
-  short-number : length s ≤ longest → r .outcome .answer .number ≤ 8
+  short-number : length s ≤ longest → eqb (r .outcome .answer .number) 9 ≡ false
   short-number h =
       by-refusal (replayRefusal s (world state m))
-      (λ z. rw (begun-outcome z) (numbers s))
-      (λ k e. rw (not-begun k e .0, ← e, refusal-short s (world state m) h) (sp-at-most state m))
+      (λ z. rw (begun-outcome z) (ends-not-nine s))
+      (λ k e. rw (not-begun k e .0, ← e, refusal-short s (world state m) h) (sp-not-nine state m))
 
   long-number : suc longest ≤ length s → r .outcome .answer .number ≡ 9
   long-number h = ap (λ (o : Outcome). o .answer .number) (not-begun 8 (refusal-long s (world state m) h) .0)
@@ -100,21 +107,24 @@ module _ (state : State) (s : List ℕ) (m : Memory) (d : List ℕ) (r : Replaye
   nine =
       by (ltb longest (length s))
       (λ e. eq-eqb (r .outcome .answer .number) 9 (long-number (ltb-true longest (length s) e)) ∙ sym e)
-      (λ e.
-      let n = short-number (ltb-false longest (length s) e) in
-      ne-eqb (r .outcome .answer .number) 9 (λ q. omega arith) ∙ sym e)
+      (λ e. short-number (ltb-false longest (length s) e) ∙ sym e)
 
   -- No memory's length changes
   lengths : (p : Place) → length (bytesOf p m′) ≡ length (bytesOf p m)
   lengths p =
       by-refusal (replayRefusal s (world state m))
       (λ z. rw (begun-memory z) (all-keep-lengths (split s .items) (world state m) p))
-      (λ k n. ap (λ (x : Memory). length (bytesOf p x)) (not-begun k n .1))
+      (λ k n. ap (λ (x : Memory). length (bytesOf p x)) (not-begun k n .2))
 
 -- Its listing is the first line and a `stop` line
-not-text : (s : List ℕ) (w : World) (n : ℕ) → replayRefusal s w ≡ suc n → replay s w .text ≡ header ++ stopLine 0 (suc n)
+not-text : (s : List ℕ) (w : World) (n : ℕ) → replayRefusal s w ≡ suc n → replay s w .text ≡ header ++ stopLine 0 (suc n) 0
 not-text s w n e =
-    ap (λ (x : Played). x .text) (replay-not s w (λ z. omega (arith, e, z))) ∙ ap (λ (k : ℕ). header ++ stopLine 0 k) e
+    ap (λ (x : Played). x .text) (replay-not s w (λ z. omega (arith, e, z))) ∙ ap (λ (k : ℕ). header ++ stopLine 0 k 0) e
+
+-- The last line shows the place that is given back; an `end` line shows none
+last-line : (number place count : ℕ) → lastLine number count place ≡ lastLine number count (ifRefused number place 0)
+last-line zero place count = refl
+last-line (suc number) place count = refl
 
 -- Two replays of the same records
 same-left : (state : State) (s t : List ℕ) (m : Memory) (d e : List ℕ) (r q : Replayed) (s′ t′ : List ℕ) (m′ n′ : Memory) (d′ e′ : List ℕ)
@@ -167,22 +177,29 @@ module _ (state : State) (s : List ℕ) (m : Memory) (d : List ℕ) (r : Replaye
       let o = begun-outcome state s m d r s′ m′ d′ g z in
       let b = begun-memory state s m d r s′ m′ d′ g z in
       let n : r .outcome .answer .number ≡ split s .number = ap (λ (o : Outcome). o .answer .number) o in
+      let place = begun-place state s m d r s′ m′ d′ g z in
       record {
         items = split s .items;
-        last = x .0;
-        read = rw n (x .1);
+        last = split s .place;
+        read = rw n x;
         count = ap (λ (o : Outcome). o .answer .count) o;
         value = ap (λ (o : Outcome). o .answer .value) o;
+        declinedAt = λ k e.
+            let there = declined-at s (split s .items) (split s .place) (split s .number) k x (sym n ∙ e) in
+            let same = place ∙ if-refused (split s .number) (split s .place) 0 (λ q. omega (arith, n, e, q)) in
+            (same, rw same (there .0), ap (readRecord s) same ∙ there .1);
+        noneDeclined = λ e. place ∙ if-accepted (split s .number) (split s .place) 0 (sym n ∙ e);
         leaves = λ i. world (o i .state) (b i);
         text =
-            rw (n, ap (λ (o : Outcome). o .answer .count) o)
-            (ap (λ (x : Played). x .text) (replay-begun s w z));
+            ap (λ (x : Played). x .text) (replay-begun s w z)
+            ∙ ap (λ (t : Text). header ++ (lines (split s .items) w ++ t)) (last-line (split s .number) (split s .place) (length (split s .items)))
+            ∙ rw (n, ap (λ (o : Outcome). o .answer .count) o, place);
         succeed = all-succeed (split s .items) w (items-fit s bytes) (items-accepted s) (machine-passes s w z);
         alone = λ e q t n′ e′ k.
-            let c = accepted-alone s (split s .items) (x .0) (split s .number) h (x .1) in
-            let y = begins-cut s w (x .0) z in (
-              ap (λ (o : Outcome). o .answer .number) (begun-outcome state (take (x .0) s) m e q t n′ e′ k y) ∙ c .1,
-              same-left state s (take (x .0) s) m d e r q s′ t m′ n′ d′ e′ g k z y (c .0),
+            let c = accepted-alone s (split s .items) (split s .place) (split s .number) h x in
+            let y = begins-cut s w (split s .place) z in (
+              ap (λ (o : Outcome). o .answer .number) (begun-outcome state (take (split s .place) s) m e q t n′ e′ k y) ∙ c .1,
+              same-left state s (take (split s .place) s) m d e r q s′ t m′ n′ d′ e′ g k z y (c .0),
             );
       }
 
@@ -203,7 +220,7 @@ every-replay state s m d r s′ m′ d′ bytes g =
     record {
       notBegun = λ n e.
           let p = not-begun state s m d r s′ m′ d′ g n e in
-          (p .0, p .1, not-text s (world state m) n e);
+          (p .0, p .1, p .2, not-text s (world state m) n e);
       begun = begun state s m d r s′ m′ d′ bytes g;
       nine = nine state s m d r s′ m′ d′ g;
       others = refusal-short s (world state m);

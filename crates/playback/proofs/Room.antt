@@ -45,40 +45,40 @@ line-fits s w = line-of (kindOf s) (four s 1) (four s 5) (eight s 5) w
 -- ---- The lines and the last line, whatever count it shows
 
 abbrev listed : Split → World → ℕ → Text
-listed x w count = lines (x .items) w ++ lastLine (x .number) count
+listed x w count = lines (x .items) w ++ lastLine (x .number) count (x .place)
 
-last-fits : (number count : ℕ) → 9 * length (lastLine number count) ≤ 153
-last-fits zero count = omega (arith, length-end count)
-last-fits (suc number) count = omega (arith, length-stop count (suc number))
+last-fits : (number count place : ℕ) → 9 * length (lastLine number count place) ≤ 207
+last-fits zero count place = omega (arith, length-end count)
+last-fits (suc number) count place = omega (arith, length-stop count (suc number) place)
 
 -- One record of a recording, declined or accepted
-one : (n : ℕ) (r : Record) (x : Split) (w : World) (count most : ℕ) → 153 ≤ most
+one : (at n : ℕ) (r : Record) (x : Split) (w : World) (count most : ℕ) → 207 ≤ most
     → (n ≡ 0 → 9 * length (line r w) + 9 * length (listed x (after r w) count) ≤ most)
-    → 9 * length (listed (ifRefused n (stops n) (precedes r x)) w count) ≤ most
+    → 9 * length (listed (ifRefused n (stops at n) (precedes r x)) w count) ≤ most
 unfolding lines
-one zero r x w count most h f =
+one at zero r x w count most h f =
     let g = f refl in
-    let both = length-append (line r w ++ lines (x .items) (after r w)) (lastLine (x .number) count) in
+    let both = length-append (line r w ++ lines (x .items) (after r w)) (lastLine (x .number) count (x .place)) in
     let before = length-append (line r w) (lines (x .items) (after r w)) in
-    let rest = length-append (lines (x .items) (after r w)) (lastLine (x .number) count) in
+    let rest = length-append (lines (x .items) (after r w)) (lastLine (x .number) count (x .place)) in
     omega (arith, g, both, before, rest)
-one (suc n) r x w count most h f = omega (arith, last-fits (suc n) count)
+one at (suc n) r x w count most h f = omega (arith, last-fits (suc n) count at)
 
 -- With the lines of the records after it
-grows : (b : ℕ) (s : List ℕ) (w : World) (rest : ℕ) → 9 * rest ≤ 38 * (length s - bodySize b) + 153 → recordNumber (b ∷ s) ≡ 0
-    → 9 * length (line (recordOf (b ∷ s)) w) + 9 * rest ≤ 38 * (suc (length s) - 0) + 153
+grows : (b : ℕ) (s : List ℕ) (w : World) (rest : ℕ) → 9 * rest ≤ 38 * (length s - bodySize b) + 207 → recordNumber (b ∷ s) ≡ 0
+    → 9 * length (line (recordOf (b ∷ s)) w) + 9 * rest ≤ 38 * (suc (length s) - 0) + 207
 grows b s w rest h e = omega (arith, line-fits (b ∷ s) w, accepted-whole (b ∷ s) e)
 
-text-fits : (j : ℕ) (s : List ℕ) (w : World) (count : ℕ) → 9 * length (listed (splitFrom j s) w count) ≤ 38 * (length s - j) + 153
+text-fits : (at j : ℕ) (s : List ℕ) (w : World) (count : ℕ) → 9 * length (listed (splitFrom at j s) w count) ≤ 38 * (length s - j) + 207
 unfolding splitFrom lines
-text-fits zero [] w count = omega (arith, length-end count)
-text-fits (suc j) [] w count = omega (arith, length-end count)
-text-fits (suc j) (b ∷ s) w count = omega (arith, text-fits j s w count)
-text-fits zero (b ∷ s) w count =
+text-fits at zero [] w count = omega (arith, length-end count)
+text-fits at (suc j) [] w count = omega (arith, length-end count)
+text-fits at (suc j) (b ∷ s) w count = omega (arith, text-fits at j s w count)
+text-fits at zero (b ∷ s) w count =
     let r = recordOf (b ∷ s) in
-    let x = splitFrom (bodySize b) s in
-    one (recordNumber (b ∷ s)) r x w count (38 * (suc (length s) - 0) + 153) (omega arith)
-    (λ e. grows b s w (length (listed x (after r w) count)) (text-fits (bodySize b) s (after r w) count) e)
+    let x = splitFrom (at + size b) (bodySize b) s in
+    one at (recordNumber (b ∷ s)) r x w count (38 * (suc (length s) - 0) + 207) (omega arith)
+    (λ e. grows b s w (length (listed x (after r w) count)) (text-fits (at + size b) (bodySize b) s (after r w) count) e)
 
 -- ---- The whole listing
 
@@ -87,5 +87,5 @@ unfolding replay
 listing-size s w = whole (replayRefusal s w) (short-enough s w)
   where
     whole : (n : ℕ) → (n ≡ 0 → length s ≤ longest) → length (headed (ifRefused n (notPlayed n w) (played (split s) w)) .text) ≤ longestListing
-    whole zero h = omega (arith, h refl, text-fits 0 s w (length (split s .items)))
-    whole (suc n) h = omega (arith, length-stop 0 (suc n))
+    whole zero h = omega (arith, h refl, text-fits 0 0 s w (length (split s .items)))
+    whole (suc n) h = omega (arith, length-stop 0 (suc n) 0)

@@ -1,5 +1,5 @@
 -- Accepted records: their calls succeed, keep a sound state sound, and keep every memory's length.
-use Prim.Native.Nat.{ℕ, zero, suc}
+use Prim.Native.Nat.{ℕ, zero, suc, _+_}
 use mathlib.Core.Path.{_≡_, refl, _∙_}
 use mathlib.Core.Bool.{Bool, true, false}
 use mathlib.Core.List.{List, [], _∷_}
@@ -11,7 +11,8 @@ use Rattle.sp.specs.Turn.{memoryAfter, spTaken}
 use Rattle.sp.proofs.Turn.{memory-length}
 use Rattle.machine.specs.declared.State.{State}
 use Rattle.machine.specs.Sound.{sound}
-use Rattle.machine.specs.Refusals.{check, rdramAllowed, bankAllowed, stateRefusal, accessRefusal, spRefusal, dpRefusal, ifRefused}
+use Rattle.machine.specs.Address.{registerAt}
+use Rattle.machine.specs.Refusals.{check, rdramAllowed, bankAllowed, registerNumber, stateRefusal, accessRefusal, spRefusal, dpRefusal, ifRefused}
 use Rattle.machine.specs.Runs.{spRunMemory}
 use Rattle.machine.proofs.Sound.{facts}
 use Rattle.machine.proofs.Refusals.{sp-checked, read-answers, write-answers, tick-answers, break-answers, acknowledge-answers, sp-run-answers, dp-run-answers}
@@ -20,9 +21,9 @@ use Rattle.laws.specs.World.{World}
 use Rattle.laws.proofs.Answers.{sp-alike}
 use Rattle.recording.specs.declared.Record.{Record}
 use Rattle.recording.specs.declared.Record.the-variants.{None, Write, Read, SpRun, DpRun, Tick, Break, Acknowledge, Store, Check}
-use Rattle.recording.specs.Kinds.{bodySize, recordOf}
+use Rattle.recording.specs.Kinds.{bodySize, size, recordOf}
 use Rattle.recording.specs.Fields.{Fits}
-use Rattle.recording.specs.Reader.{registerNumber, addressNumber, recordNumber}
+use Rattle.recording.specs.Reader.{addressNumber, recordNumber}
 use Rattle.recording.specs.Split.{Split, stops, precedes, splitFrom, split, AllFit}
 use Rattle.recording.proofs.Accepted.{accepted-address}
 use Rattle.playback.specs.Effects.{placeAt, offsetAt, storeAt, room, after}
@@ -36,20 +37,21 @@ abbrev pub AllAccepted : List Record → Type 0
 AllAccepted [] = Unit {0}
 AllAccepted (r ∷ rs) = (addressNumber r ≡ 0) × AllAccepted rs
 
-by-number : (n : ℕ) (r : Record) (x : Split) → (n ≡ 0 → addressNumber r ≡ 0) → AllAccepted (x .items)
-    → AllAccepted (ifRefused n (stops n) (precedes r x) .items)
-by-number zero r x h k = (h refl, k)
-by-number (suc n) r x h k = tt
+by-number : (at n : ℕ) (r : Record) (x : Split) → (n ≡ 0 → addressNumber r ≡ 0) → AllAccepted (x .items)
+    → AllAccepted (ifRefused n (stops at n) (precedes r x) .items)
+by-number at zero r x h k = (h refl, k)
+by-number at (suc n) r x h k = tt
 
-from-accepted : (k : ℕ) (s : List ℕ) → AllAccepted (splitFrom k s .items)
+from-accepted : (at k : ℕ) (s : List ℕ) → AllAccepted (splitFrom at k s .items)
 unfolding splitFrom
-from-accepted k [] = tt
-from-accepted zero (b ∷ s) =
-    by-number (recordNumber (b ∷ s)) (recordOf (b ∷ s)) (splitFrom (bodySize b) s) (accepted-address (b ∷ s)) (from-accepted (bodySize b) s)
-from-accepted (suc k) (b ∷ s) = from-accepted k s
+from-accepted at k [] = tt
+from-accepted at zero (b ∷ s) =
+    by-number at (recordNumber (b ∷ s)) (recordOf (b ∷ s)) (splitFrom (at + size b) (bodySize b) s) (accepted-address (b ∷ s))
+    (from-accepted (at + size b) (bodySize b) s)
+from-accepted at (suc k) (b ∷ s) = from-accepted at k s
 
 pub items-accepted : (s : List ℕ) → AllAccepted (split s .items)
-items-accepted s = from-accepted 0 s
+items-accepted s = from-accepted 0 0 s
 
 -- ---- Soundness
 
@@ -114,7 +116,7 @@ state-passes : (s : State) → sound s ≡ true → stateRefusal s ≡ 0
 unfolding stateRefusal
 state-passes s e = rw e
 
-access-passes : (s : State) (a : ℕ) → sound s ≡ true → registerNumber a ≡ 0 → accessRefusal s a ≡ 0
+access-passes : (s : State) (a : ℕ) → sound s ≡ true → registerNumber (registerAt a) ≡ 0 → accessRefusal s a ≡ 0
 unfolding accessRefusal
 access-passes s a e h = rw e h
 

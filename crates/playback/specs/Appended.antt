@@ -10,7 +10,7 @@ use Rattle.machine.specs.Refusals.{spRefusal}
 use Rattle.laws.specs.World.{World, world}
 use Rattle.recording.specs.declared.Record.{Record}
 use Rattle.recording.specs.Split.{split}
-use Rattle.recording.specs.Written.{Appends, allOf}
+use Rattle.recording.specs.Written.{Appends}
 use Rattle.listing.specs.Text.{header, endLine}
 use Rattle.playback.specs.declared.Replayed.{Replayed}
 use Rattle.playback.specs.Replay.{afterAll, lines, replay}
@@ -20,6 +20,7 @@ use Rattle.playback.specs.Promised.{ReplayGives}
 pub record Replays (rs : List Record) (s : List ℕ) (w : World) (r : Replayed) (m′ : Memory) : Type 0 where
   pub number : r .outcome .answer .number ≡ 0
   pub count : r .outcome .answer .count ≡ length rs
+  pub place : r .place ≡ 0
   pub leaves : world (r .outcome .state) m′ ≡ afterAll rs w
   pub text : replay s w .text ≡ header ++ (lines rs w ++ endLine (length rs))
 
@@ -27,7 +28,7 @@ pub record Replays (rs : List Record) (s : List ℕ) (w : World) (r : Replayed) 
 -- of state and memory pass
 abbrev pub EveryAppendReplayed : Type 0
 EveryAppendReplayed = (d : List ℕ) (at : ℕ) (qs rs : List Record) (d′ : List ℕ) (last : ℕ)
-    → at ≤ length d → at ≤ 16383 → split (take at d) ≡ allOf qs → Appends d at rs d′ last
+    → at ≤ length d → at ≤ 16383 → split (take at d) .items ≡ qs → split (take at d) .number ≡ 0 → Appends d at rs d′ last
     → (state : State) (m : Memory) (out : List ℕ) (r : Replayed) (s′ : List ℕ) (m′ : Memory) (out′ : List ℕ)
     → spRefusal state m ≡ 0 → ReplayGives state (take last d′) m out r s′ m′ out′
     → Replays (qs ++ rs) (take last d′) (world state m) r m′

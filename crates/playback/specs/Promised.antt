@@ -20,6 +20,7 @@ use Rattle.playback.specs.Replay.{played, replay}
 -- buffer's bytes after them are as before
 pub record ReplayGives (state : State) (s : List ℕ) (m : Memory) (d : List ℕ) (r : Replayed) (s′ : List ℕ) (m′ : Memory) (d′ : List ℕ) : Type 0 where
   pub outcome : r .outcome ≡ replay s (world state m) .outcome
+  pub place : r .place ≡ replay s (world state m) .place
   pub bytes : m′ ≡ replay s (world state m) .memory
   pub written : r .written ≡ min (length (replay s (world state m) .text)) (length d)
   pub listing : d′ ≡ take (length d) (replay s (world state m) .text) ++ drop (length (replay s (world state m) .text)) d
@@ -40,5 +41,6 @@ pub record PerformGives (item : Record) (w : World) (d : List ℕ) (at : ℕ) (w
 -- The records of a recording were performed, and the last line was written
 pub record PlayGives (x : Split) (w : World) (d : List ℕ) (at : ℕ) (r : Replayed) (m′ : Memory) (d′ : List ℕ) : Type 0 where
   pub outcome : r .outcome ≡ played x w .outcome
+  pub place : r .place ≡ played x w .place
   pub bytes : m′ ≡ played x w .memory
   pub listed : Put d at (played x w .text) d′ (r .written)

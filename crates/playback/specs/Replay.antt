@@ -25,12 +25,14 @@ lines [] w = []
 lines (r ∷ rs) w = line r w ++ lines rs (after r w)
 
 -- The last line: `stop`, or `end` where the number is 0
-abbrev pub lastLine : ℕ → ℕ → Text
-lastLine number count = ifRefused number (stopLine count number) (endLine count)
+abbrev pub lastLine : ℕ → ℕ → ℕ → Text
+lastLine number count place = ifRefused number (stopLine count number place) (endLine count)
 
--- How a replay ends: number, value, count and state; every lent byte of memory; the listing
+-- How a replay ends: number, value, count and state; the place where the declined record begins, 0 if there is none; every lent byte of memory; the
+-- listing
 pub record Played : Type 0 where
   pub outcome : Outcome
+  pub place : ℕ
   pub memory : Memory
   pub text : Text
 
@@ -42,8 +44,9 @@ abbrev pub played : Split → World → Played
 played x w =
     record {
       outcome = ending (afterAll (x .items) w .state) (x .number) (length (x .items));
+      place = ifRefused (x .number) (x .place) 0;
       memory = afterAll (x .items) w .memory;
-      text = lines (x .items) w ++ lastLine (x .number) (length (x .items));
+      text = lines (x .items) w ++ lastLine (x .number) (length (x .items)) (x .place);
     }
 
 -- The checks before the first record: 9, then 1, 2, 3 and 4
@@ -52,11 +55,11 @@ replayRefusal s w = check (leb (length s) longest) 9 (spRefusal (w .state) (w .m
 
 -- A replay that does not begin changes nothing
 abbrev pub notPlayed : ℕ → World → Played
-notPlayed number w = record { outcome = declined (w .state) number; memory = w .memory; text = stopLine 0 number }
+notPlayed number w = record { outcome = declined (w .state) number; place = 0; memory = w .memory; text = stopLine 0 number 0 }
 
 -- The first line goes before
 abbrev pub headed : Played → Played
-headed p = record { outcome = p .outcome; memory = p .memory; text = header ++ p .text }
+headed p = record { outcome = p .outcome; place = p .place; memory = p .memory; text = header ++ p .text }
 
 -- The recording s is replayed
 unfoldable pub replay : List ℕ → World → Played

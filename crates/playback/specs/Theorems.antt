@@ -1,5 +1,5 @@
 -- The theorems of a replay, of whatever code meets its promise (ReplayGives).
-use Prim.Native.Nat.{ℕ, suc, _≤_}
+use Prim.Native.Nat.{ℕ, suc, _<_, _≤_}
 use mathlib.Core.Path.{_≡_}
 use mathlib.Core.Bool.{true}
 use mathlib.Core.List.{List, [], _∷_, _++_}
@@ -15,6 +15,7 @@ use Rattle.laws.specs.World.{World, world}
 use Rattle.recording.specs.declared.Record.{Record}
 use Rattle.recording.specs.declared.Record.the-variants.{None, Write, Read, SpRun, DpRun, Tick, Break, Acknowledge, Store, Check}
 use Rattle.recording.specs.Kinds.{Bytes}
+use Rattle.recording.specs.Reader.{refused, readRecord}
 use Rattle.recording.specs.Split.{ReadOn}
 use Rattle.listing.specs.Text.{header, stopLine}
 use Rattle.playback.specs.declared.Replayed.{Replayed}
@@ -55,10 +56,14 @@ pub record Begun (s : List ℕ) (w : World) (r : Replayed) (m′ : Memory) : Typ
   pub read : ReadOn s 0 items last (r .outcome .answer .number)
   pub count : r .outcome .answer .count ≡ length items
   pub value : r .outcome .answer .value ≡ 0
+  -- The place given back is that of the declined record: the reader declines what begins there, with the number given back
+  pub declinedAt : (n : ℕ) → r .outcome .answer .number ≡ suc n
+      → (r .place ≡ last) × (r .place < length s) × (readRecord s (r .place) ≡ refused (suc n))
+  pub noneDeclined : r .outcome .answer .number ≡ 0 → r .place ≡ 0
   -- What the accepted records leave is left, and nothing else is done
   pub leaves : world (r .outcome .state) m′ ≡ afterAll items w
-  -- The listing: the first line, a line for each accepted record that has one, and `end`, or `stop` with the number
-  pub text : replay s w .text ≡ header ++ (lines items w ++ lastLine (r .outcome .answer .number) (r .outcome .answer .count))
+  -- The listing: the first line, a line for each accepted record that has one, and `end`, or `stop` with the number and that place
+  pub text : replay s w .text ≡ header ++ (lines items w ++ lastLine (r .outcome .answer .number) (r .outcome .answer .count) (r .place))
   -- The call of each accepted record answers 0
   pub succeed : Succeed items w
   -- Replaying the accepted records alone succeeds, and leaves the same
@@ -67,13 +72,13 @@ pub record Begun (s : List ℕ) (w : World) (r : Replayed) (m′ : Memory) : Typ
 
 -- The listing never has more bytes than this
 abbrev pub longestListing : ℕ
-longestListing = 69198
+longestListing = 69204
 
 -- The recording s was replayed from a state over the memory m and the buffer d; it gave r and left m′ and d′
 pub record ReplayGiven (state : State) (s : List ℕ) (m : Memory) (d : List ℕ) (r : Replayed) (m′ : Memory) (d′ : List ℕ) : Type 0 where
   -- Declined by 9, 1, 2, 3 or 4 before its first record: nothing is done
   pub notBegun : (n : ℕ) → replayRefusal s (world state m) ≡ suc n
-      → (r .outcome ≡ declined state (suc n)) × (m′ ≡ m) × (replay s (world state m) .text ≡ header ++ stopLine 0 (suc n))
+      → (r .outcome ≡ declined state (suc n)) × (r .place ≡ 0) × (m′ ≡ m) × (replay s (world state m) .text ≡ header ++ stopLine 0 (suc n) 0)
   pub begun : replayRefusal s (world state m) ≡ 0 → Begun s (world state m) r m′
   -- 9 exactly where the recording is longer than 16,383 bytes
   pub nine : eqb (r .outcome .answer .number) 9 ≡ ltb 16383 (length s)

@@ -19,8 +19,8 @@ ghost use Rattle.recording.specs.Split.{split};
 ghost use Rattle.playback.specs.Replay.{ending, replayRefusal};
 ghost use Rattle.playback.specs.Promised.{PlayGives, ReplayGives};
 
-fn replayed(state: State, number: u32, count: u32, written: usize) -> Replayed
-    ensures { λ r. ⌜ (r .outcome ≡ ending state number count) × (r .written ≡ written) ⌝ }
+fn replayed(state: State, number: u32, count: u32, written: usize, place: usize) -> Replayed
+    ensures { λ r. ⌜ (r .outcome ≡ ending state number count) × (r .written ≡ written) × (r .place ≡ place) ⌝ }
 {
     let answer = Answer {
         number,
@@ -28,7 +28,11 @@ fn replayed(state: State, number: u32, count: u32, written: usize) -> Replayed
         count,
     };
     let outcome = Outcome { state, answer };
-    Replayed { outcome, written }
+    Replayed {
+        outcome,
+        written,
+        place,
+    }
 }
 
 // Performs records until none is left or one is declined, and writes the last line.
@@ -61,12 +65,12 @@ fn play(
             at = next.place;
             count += 1;
         } else {
-            let written = put_stop(out, place, count, number);
-            return replayed(state, number, count, written);
+            let written = put_stop(out, place, count, number, at);
+            return replayed(state, number, count, written, at);
         }
     }
     let written = put_end(out, place, count);
-    replayed(state, 0, count, written)
+    replayed(state, 0, count, written, 0)
 }
 
 // The number of a replay that does not begin, or 0.
@@ -77,8 +81,9 @@ fn replay_refusal(s: State, recording: &[u8], rdram: &[u8], dmem: &[u8], imem: &
     check(short, 9, sp_refusal(s, rdram, dmem, imem))
 }
 
-// Replays a recording, and writes its listing to `out`; 69,198 bytes of room always suffice. It stops at the first record that is declined, with the
-// state and bytes that the records before it left; the count is their number. Refusals: 9, 1, 2, 3, 4; then those of its records: 7, 8, 5, 6.
+// Replays a recording, and writes its listing to `out`; 69,204 bytes of room always suffice. It stops at the first record that is declined, with the
+// state and bytes that the records before it left; the count is their number, and `place` is where it begins. Refusals: 9, 1, 2, 3, 4, with place 0;
+// then those of its records: 7, 8, 10, 5, 6.
 pub fn replay(
     s: State,
     recording: &[u8],
@@ -95,6 +100,6 @@ pub fn replay(
     if number == 0 {
         return play(s, recording, rdram, dmem, imem, out, place);
     }
-    let written = put_stop(out, place, 0, number);
-    replayed(s, number, 0, written)
+    let written = put_stop(out, place, 0, number, 0);
+    replayed(s, number, 0, written, 0)
 }

@@ -4,24 +4,18 @@ use crate::fields::is_kind;
 use crate::fields::record_of;
 use crate::fields::size;
 use checks::check;
-use checks::is_register;
 use checks::register_at;
+use checks::register_number;
 use recording::Reading;
 use recording::Record;
 ghost use mathlib.Core.Path.{_≡_};
-ghost use Rattle.recording.specs.Reader.{memoryAllowed, registerNumber, memoryNumber, addressNumber, recordNumber, refused, found, first, RecordGives};
+ghost use Rattle.recording.specs.Reader.{memoryAllowed, memoryNumber, addressNumber, recordNumber, refused, found, first, RecordGives};
 
 // An address that kinds 8 and 9 may name.
 fn memory_allowed(a: u32) -> bool
     ensures { λ r. ⌜ r ≡ memoryAllowed a ⌝ }
 {
     (a % 8 == 0) & ((a < 0x03F00000) | ((0x04000000 <= a) & (a < 0x04002000)))
-}
-
-fn register_number(a: u32) -> u32
-    ensures { λ r. ⌜ r ≡ registerNumber a ⌝ }
-{
-    check(is_register(register_at(a)), 5, 0)
 }
 
 fn memory_number(a: u32) -> u32
@@ -36,8 +30,8 @@ pub fn address_number(item: Record) -> u32
 {
     match item {
         Record::None => 0,
-        Record::Write(a, _) => register_number(a),
-        Record::Read(a, _) => register_number(a),
+        Record::Write(a, _) => register_number(register_at(a)),
+        Record::Read(a, _) => register_number(register_at(a)),
         Record::SpRun(_) => 0,
         Record::DpRun(_) => 0,
         Record::Tick(_) => 0,
@@ -95,7 +89,7 @@ fn first(s: &[u8]) -> Reading
     refused(number)
 }
 
-// The record at a place of a recording, and the place after it. Refusals, by the first that applies: 9, 7, 8, 5, 6; at or past the end 8.
+// The record at a place of a recording, and the place after it. Refusals, by the first that applies: 9, 7, 8, 10, 5, 6; at or past the end 8.
 pub fn read_record(recording: &[u8], place: usize) -> Reading
     ensures { λ r. ⌜ RecordGives (now (recording .entry)) place r (now (recording .exit)) ⌝ }
 {

@@ -1,5 +1,5 @@
 -- Each number of a declined reading is given exactly in its case, and a declined reading gives nothing else.
-use Prim.Native.Nat.{ℕ, zero, suc, _+_, _≤_}
+use Prim.Native.Nat.{ℕ, zero, suc, _+_}
 use mathlib.Core.Path.{_≡_, refl, ap, _∙_}
 use mathlib.Core.Bool.{Bool, true, false, cond, not, _&&_, _||_}
 use mathlib.Core.List.{List}
@@ -9,10 +9,9 @@ use lib.ListN.{length, drop}
 use borrow.Author.Tests.{ne-eqb}
 use Rattle.words.specs.Tests.{implies}
 use Rattle.words.proofs.Tests.{contradiction}
-use Rattle.machine.specs.Address.{registerAt}
-use Rattle.machine.specs.Refusals.{check, isRegister, ifRefused}
-use Rattle.recording.specs.declared.Record.{Record}
-use Rattle.recording.specs.declared.Record.the-variants.{None, Write, Read, SpRun, DpRun, Tick, Break, Acknowledge, Store, Check}
+use Rattle.machine.specs.Address.{aligned, registerAt}
+use Rattle.machine.specs.Refusals.{check, isRegister, ifRefused, tenAsFive}
+use Rattle.machine.proofs.Address.{register-number, register-aligned}
 use Rattle.recording.specs.declared.Reading.{Reading}
 use Rattle.recording.specs.Kinds.{four, eight, isKind, accesses, storesOrChecks, size, kindOf, decoded, recordOf}
 use Rattle.recording.specs.Reader.{memoryAllowed, addressNumber, recordNumber, refused, found, first, shifted, longest, readRecord}
@@ -42,11 +41,12 @@ one-address (suc (suc (suc k))) =
 -- The checks of an address, by the kind alone
 pub address-number : (k a v w : ℕ)
     → addressNumber (decoded k a v w)
-    ≡ check (implies (accesses k) (isRegister (registerAt a))) 5 (check (implies (storesOrChecks k) (memoryAllowed a)) 6 0)
+    ≡ check (implies (accesses k) (aligned a)) 10
+    (check (implies (accesses k) (isRegister (registerAt a))) 5 (check (implies (storesOrChecks k) (memoryAllowed a)) 6 0))
 unfolding decoded
 address-number zero a v w = refl
-address-number (suc zero) a v w = refl
-address-number (suc (suc zero)) a v w = refl
+address-number (suc zero) a v w = register-number a
+address-number (suc (suc zero)) a v w = register-number a
 address-number (suc (suc (suc zero))) a v w = refl
 address-number (suc (suc (suc (suc zero)))) a v w = refl
 address-number (suc (suc (suc (suc (suc zero))))) a v w = refl
@@ -64,33 +64,39 @@ address-number (suc (suc (suc (suc (suc (suc (suc (suc (suc (suc k)))))))))) a v
     )
 
 -- The same over bare tests
-record GivenBy (n : ℕ) (begun known there accesses stores register memory : Bool) : Type 0 where
+record GivenBy (n : ℕ) (begun known there accesses stores multiple register memory : Bool) : Type 0 where
   byKind : eqb n 7 ≡ begun && not known
   byCut : eqb n 8 ≡ not begun || (known && not there)
-  byRegister : eqb n 5 ≡ begun && known && there && accesses && not register
+  byMultiple : eqb n 10 ≡ begun && known && there && accesses && not multiple
+  byRegister : eqb n 5 ≡ begun && known && there && accesses && multiple && not register
   byMemory : eqb n 6 ≡ begun && known && there && stores && not memory
   byNone : eqb n 0 ≡ begun && known && there && implies accesses register && implies stores memory
+  asOne : tenAsFive n ≡ check begun 8 (check known 7 (check there 8 (check (implies accesses register) 5 (check (implies stores memory) 6 0))))
+  notNine : eqb n 9 ≡ false
 
-first-fails : (b k t a s r m : Bool) → a && s ≡ false
-    → GivenBy (check b 8 (check k 7 (check t 8 (check (implies a r) 5 (check (implies s m) 6 0))))) b k t a s r m
-first-fails false k t a s r m e = search
-first-fails true false t a s r m e = search
-first-fails true true false a s r m e = search
-first-fails true true true true true r m e = contradiction refl e
-first-fails true true true true false true m e = search
-first-fails true true true true false false m e = search
-first-fails true true true false true r true e = search
-first-fails true true true false true r false e = search
-first-fails true true true false false r m e = search
+first-fails : (b k t a s x r m : Bool) → a && s ≡ false → implies r x ≡ true
+    → GivenBy (check b 8 (check k 7 (check t 8 (check (implies a x) 10 (check (implies a r) 5 (check (implies s m) 6 0)))))) b k t a s x r m
+first-fails false k t a s x r m e h = search
+first-fails true false t a s x r m e h = search
+first-fails true true false a s x r m e h = search
+first-fails true true true true true x r m e h = contradiction refl e
+first-fails true true true true false false true m e h = contradiction h refl
+first-fails true true true true false false false m e h = search
+first-fails true true true true false true true m e h = search
+first-fails true true true true false true false m e h = search
+first-fails true true true false true x r true e h = search
+first-fails true true true false true x r false e h = search
+first-fails true true true false false x r m e h = search
 
 given-by : (s : List ℕ)
     → GivenBy (recordNumber s) (ltb 0 (length s)) (isKind (kindOf s)) (leb (size (kindOf s)) (length s)) (accesses (kindOf s))
-    (storesOrChecks (kindOf s)) (isRegister (registerAt (four s 1))) (memoryAllowed (four s 1))
+    (storesOrChecks (kindOf s)) (aligned (four s 1)) (isRegister (registerAt (four s 1))) (memoryAllowed (four s 1))
 unfolding recordNumber recordOf
 given-by s =
     rw (address-number (kindOf s) (four s 1) (four s 5) (eight s 5))
     (first-fails (ltb 0 (length s)) (isKind (kindOf s)) (leb (size (kindOf s)) (length s)) (accesses (kindOf s))
-    (storesOrChecks (kindOf s)) (isRegister (registerAt (four s 1))) (memoryAllowed (four s 1)) (one-address (kindOf s)))
+    (storesOrChecks (kindOf s)) (aligned (four s 1)) (isRegister (registerAt (four s 1))) (memoryAllowed (four s 1)) (one-address (kindOf s))
+    (register-aligned (four s 1)))
 
 pub record-given : (s : List ℕ) → RecordGiven s
 record-given s =
@@ -98,9 +104,11 @@ record-given s =
     record {
       kindNumber = g .byKind;
       cutNumber = g .byCut;
+      alignedNumber = g .byMultiple;
       registerNumber = g .byRegister;
       memoryNumber = g .byMemory;
       success = g .byNone;
+      asBefore = g .asOne;
     }
 
 -- ---- The number of a reading
@@ -138,37 +146,14 @@ declined-reading s at n = go (ltb longest (length s))
     go true e = ap refused e
     go false e = shifted-declined at n (first (drop at s)) e
 
--- ---- The numbers of records are at most 8
+-- ---- 9 is for the length of a recording alone
 
--- A check's number is small where its own and the later ones are
-pub small : (ok : Bool) (n later : ℕ) → n ≤ 8 → later ≤ 8 → check ok n later ≤ 8
-small true n later h l = l
-small false n later h l = h
-
-address-at-most : (r : Record) → addressNumber r ≤ 8
-address-at-most None = omega arith
-address-at-most (Write a v) = small (isRegister (registerAt a)) 5 0 (omega arith) (omega arith)
-address-at-most (Read a v) = small (isRegister (registerAt a)) 5 0 (omega arith) (omega arith)
-address-at-most (SpRun b) = omega arith
-address-at-most (DpRun b) = omega arith
-address-at-most (Tick n) = omega arith
-address-at-most Break = omega arith
-address-at-most Acknowledge = omega arith
-address-at-most (Store a w) = small (memoryAllowed a) 6 0 (omega arith) (omega arith)
-address-at-most (Check a w) = small (memoryAllowed a) 6 0 (omega arith) (omega arith)
-
-pub record-at-most : (s : List ℕ) → recordNumber s ≤ 8
-unfolding recordNumber
-record-at-most s =
-    small (ltb 0 (length s)) 8 _ (omega arith)
-    (small (isKind (kindOf s)) 7 _ (omega arith)
-    (small (leb (size (kindOf s)) (length s)) 8 (addressNumber (recordOf s)) (omega arith) (address-at-most (recordOf s))))
+pub not-nine : (s : List ℕ) → eqb (recordNumber s) 9 ≡ false
+not-nine s = given-by s .notNine
 
 pub length-given : (s : List ℕ) → LengthGiven s
-length-given s at =
-    let h = record-at-most (drop at s) in
-    ap (λ (n : ℕ). eqb n 9) (read-number s at) ∙ go (ltb longest (length s)) (ne-eqb (recordNumber (drop at s)) 9 (λ e. omega arith))
+length-given s at = ap (λ (n : ℕ). eqb n 9) (read-number s at) ∙ go (ltb longest (length s))
   where
-    go : (b : Bool) → eqb (recordNumber (drop at s)) 9 ≡ false → eqb (cond b 9 (recordNumber (drop at s))) 9 ≡ b
-    go true e = refl
-    go false e = e
+    go : (b : Bool) → eqb (cond b 9 (recordNumber (drop at s))) 9 ≡ b
+    go true = refl
+    go false = not-nine (drop at s)

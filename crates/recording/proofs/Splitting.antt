@@ -1,56 +1,73 @@
 -- A recording is split as the reader reads it, one record after another.
 use Prim.Native.Nat.{ℕ, zero, suc, _+_, _-_, _*_, _<_, _≤_}
 use mathlib.Core.Path.{_≡_, refl, sym, ap, _∙_}
-use mathlib.Core.Bool.{Bool, cond}
+use mathlib.Core.Bool.{Bool, false, cond}
 use mathlib.Core.List.{List, [], _∷_}
 use native.Mathlib.Omega.{arith}
 use native.Mathlib.Nat.{zero-sub, sub-zero, suc-sub-suc}
 use native.Mathlib.Numerals.{one-add}
-use lib.Dec.{ltb}
+use lib.Dec.{ltb, eqb}
 use lib.ListN.{length, take, drop, length-drop, length-take}
 use lib.Seq.{drop-drop, getD-take, length-take-le, take-nil}
 use borrow.Author.Tests.{ltb-true, ltb-false, le-ltb, lt-ltb}
 use Rattle.words.proofs.Tests.{by}
+use Rattle.machine.specs.Address.{registerAt}
 use Rattle.machine.specs.Refusals.{ifRefused}
 use Rattle.machine.proofs.Refusals.{if-accepted, if-refused}
 use Rattle.recording.specs.declared.Record.{Record}
+use Rattle.recording.specs.declared.Record.the-variants.{SpRun, Break}
 use Rattle.recording.specs.declared.Reading.{Reading}
-use Rattle.recording.specs.Kinds.{Bytes, byte, four, eight, bodySize, size, kindOf, recordOf}
+use Rattle.recording.specs.Kinds.{Bytes, byte, four, eight, bodySize, size, kindOf, decoded, recordOf}
 use Rattle.recording.specs.Fields.{Fits}
-use Rattle.recording.specs.Reader.{recordNumber, found, first, longest, readRecord}
+use Rattle.recording.specs.Reader.{recordNumber, refused, found, first, longest, readRecord}
 use Rattle.recording.specs.Split.{Split, stops, precedes, splitFrom, split, ReadOn, AllFit}
 use Rattle.recording.specs.Split.ReadOn.{atEnd, declines, reads}
 use Rattle.recording.proofs.Accepted.{accepted-whole}
 use Rattle.recording.proofs.Named.{decoded-fits}
 use Rattle.recording.proofs.Agreeing.{agreeing-kind, agreeing-record, agreeing-number}
 use Rattle.recording.proofs.Bytes.{four-fits}
-use Rattle.recording.proofs.Numbers.{read-number, declined-reading, record-at-most}
+use Rattle.recording.proofs.Numbers.{read-number, declined-reading, not-nine}
+
+-- ---- Where some recordings stop, by computation
+
+-- A BREAK and an SP run, and then: nothing; a write to 0x04040021, and more; a write that is cut short
+pub stops-of-bytes : (split (6 ∷ 3 ∷ 0 ∷ 0 ∷ 0 ∷ 2 ∷ []) ≡ record { items = Break ∷ SpRun 2 ∷ []; place = 6; number = 0 })
+    × (split (6 ∷ 3 ∷ 0 ∷ 0 ∷ 0 ∷ 2 ∷ 1 ∷ 0x04 ∷ 0x04 ∷ 0x00 ∷ 0x21 ∷ 0 ∷ 0 ∷ 0 ∷ 0 ∷ 6 ∷ [])
+    ≡ record { items = Break ∷ SpRun 2 ∷ []; place = 6; number = 10 })
+    × (split (6 ∷ 3 ∷ 0 ∷ 0 ∷ 0 ∷ 2 ∷ 1 ∷ 0x04 ∷ 0x04 ∷ []) ≡ record { items = Break ∷ SpRun 2 ∷ []; place = 6; number = 8 })
+unfolding splitFrom recordNumber recordOf decoded registerAt
+stops-of-bytes = (refl, refl, refl)
 
 -- ---- The records of bytes
 
+-- The records of a recording from a place on
+abbrev pub splitAt : ℕ → List ℕ → Split
+splitAt at s = splitFrom at 0 (drop at s)
+
 -- A body that is passed over is dropped
-skipped : (k : ℕ) (s : List ℕ) → splitFrom k s ≡ split (drop k s)
+skipped : (at k : ℕ) (s : List ℕ) → splitFrom at k s ≡ splitFrom at 0 (drop k s)
 unfolding splitFrom
-skipped zero s = refl
-skipped (suc k) [] = refl
-skipped (suc k) (b ∷ s) = skipped k s
+skipped at zero s = refl
+skipped at (suc k) [] = refl
+skipped at (suc k) (b ∷ s) = skipped at k s
 
-split-empty : (s : List ℕ) → length s ≤ 0 → split s ≡ stops 0
+split-empty : (at : ℕ) (s : List ℕ) → length s ≤ 0 → splitFrom at 0 s ≡ stops at 0
 unfolding splitFrom
-split-empty [] h = refl
-split-empty (b ∷ s) h = absurd (omega arith)
+split-empty at [] h = refl
+split-empty at (b ∷ s) h = absurd (omega arith)
 
-pub split-accepted : (s : List ℕ) → recordNumber s ≡ 0 → split s ≡ precedes (recordOf s) (split (drop (size (kindOf s)) s))
+pub split-accepted : (at : ℕ) (s : List ℕ) → recordNumber s ≡ 0
+    → splitFrom at 0 s ≡ precedes (recordOf s) (splitFrom (at + size (kindOf s)) 0 (drop (size (kindOf s)) s))
 unfolding splitFrom
-split-accepted [] e = absurd (omega (arith, accepted-whole [] e))
-split-accepted (b ∷ s) e =
+split-accepted at [] e = absurd (omega (arith, accepted-whole [] e))
+split-accepted at (b ∷ s) e =
     if-accepted (recordNumber (b ∷ s)) _ _ e
-    ∙ rw (one-add (bodySize b)) (ap (precedes (recordOf (b ∷ s))) (skipped (bodySize b) s))
+    ∙ rw (one-add (bodySize b)) (ap (precedes (recordOf (b ∷ s))) (skipped (at + suc (bodySize b)) (bodySize b) s))
 
-split-declined : (s : List ℕ) (n : ℕ) → 0 < length s → recordNumber s ≡ suc n → split s ≡ stops (suc n)
+split-declined : (at : ℕ) (s : List ℕ) (n : ℕ) → 0 < length s → recordNumber s ≡ suc n → splitFrom at 0 s ≡ stops at (suc n)
 unfolding splitFrom
-split-declined [] n h e = absurd (omega arith)
-split-declined (b ∷ s) n h e = if-refused (recordNumber (b ∷ s)) _ _ (λ z. omega arith) ∙ ap stops e
+split-declined at [] n h e = absurd (omega arith)
+split-declined at (b ∷ s) n h e = if-refused (recordNumber (b ∷ s)) _ _ (λ z. omega arith) ∙ ap (stops at) e
 
 -- ---- The reader
 
@@ -64,23 +81,23 @@ read-accepted s at h e = rw (le-ltb longest (length s) h, e)
 
 -- ---- The splitting and the reader
 
-pub split-none : (s : List ℕ) (at : ℕ) → length s ≤ at → split (drop at s) ≡ stops 0
-split-none s at h = split-empty (drop at s) (simp length-drop (omega arith))
+pub split-none : (s : List ℕ) (at : ℕ) → length s ≤ at → splitAt at s ≡ stops at 0
+split-none s at h = split-empty at (drop at s) (simp length-drop (omega arith))
 
 pub split-next : (s : List ℕ) (at : ℕ) → length s ≤ longest → readRecord s at .number ≡ 0
-    → split (drop at s) ≡ precedes (readRecord s at .item) (split (drop (readRecord s at .place) s))
+    → splitAt at s ≡ precedes (readRecord s at .item) (splitAt (readRecord s at .place) s)
 split-next s at h e =
     let z : recordNumber (drop at s) ≡ 0 = sym (short s at h) ∙ e in
-    split-accepted (drop at s) z
+    split-accepted at (drop at s) z
     ∙ rw (read-accepted s at h z, drop-drop (size (kindOf (drop at s))) at s)
 
 pub split-stops : (s : List ℕ) (at : ℕ) → length s ≤ longest → at < length s → (readRecord s at .number ≡ 0 → ⊥)
-    → split (drop at s) ≡ stops (readRecord s at .number)
+    → splitAt at s ≡ stops at (readRecord s at .number)
 split-stops s at h l not-accepted = go (readRecord s at .number) refl
   where
-    go : (n : ℕ) → readRecord s at .number ≡ n → split (drop at s) ≡ stops n
+    go : (n : ℕ) → readRecord s at .number ≡ n → splitAt at s ≡ stops at n
     go zero e = absurd (not-accepted e)
-    go (suc n) e = split-declined (drop at s) n (simp length-drop (omega arith)) (sym (short s at h) ∙ e)
+    go (suc n) e = split-declined at (drop at s) n (simp length-drop (omega arith)) (sym (short s at h) ∙ e)
 
 pub moves-on : (s : List ℕ) (at : ℕ) → length s ≤ longest → readRecord s at .number ≡ 0
     → (at < readRecord s at .place) × (readRecord s at .place ≤ length s)
@@ -97,22 +114,22 @@ moves-on s at h e =
 
 -- What is to be proved of the places from `at` on
 abbrev OnFrom : List ℕ → ℕ → Type 0
-OnFrom s at = (last : ℕ) × ReadOn s at (split (drop at s) .items) last (split (drop at s) .number)
+OnFrom s at = ReadOn s at (splitAt at s .items) (splitAt at s .place) (splitAt at s .number)
 
 module _ (s : List ℕ) (at : ℕ) where
   at-end : at ≡ length s → OnFrom s at
-  at-end e = (length s, rw (e, split-none s (length s) (omega arith)) atEnd)
+  at-end e = rw (e, split-none s (length s) (omega arith)) atEnd
 
   at-declined : (n : ℕ) → length s ≤ longest → at < length s → readRecord s at .number ≡ suc n → OnFrom s at
   at-declined n h l e =
-      let q : split (drop at s) ≡ stops (suc n) = split-stops s at h l (λ z. omega arith) ∙ ap stops e in
-      (at, rw q (declines l (declined-reading s at n e)))
+      let q : splitAt at s ≡ stops at (suc n) = split-stops s at h l (λ z. omega arith) ∙ ap (stops at) e in
+      rw q (declines l (declined-reading s at n e))
 
   found-there : readRecord s at .number ≡ 0 → readRecord s at ≡ found (readRecord s at .item) (readRecord s at .place)
   found-there e = λ i. record { number = e i; item = readRecord s at .item; place = readRecord s at .place }
 
   at-record : length s ≤ longest → at < length s → readRecord s at .number ≡ 0 → OnFrom s (readRecord s at .place) → OnFrom s at
-  at-record h l e r = (r .0, rw (split-next s at h e) (reads l (found-there e) (r .1)))
+  at-record h l e r = rw (split-next s at h e) (reads l (found-there e) r)
 
   -- By the three cases
   at-place : length s ≤ longest → at ≤ length s → (readRecord s at .number ≡ 0 → OnFrom s (readRecord s at .place)) → OnFrom s at
@@ -133,8 +150,8 @@ on-from (suc fuel) s at h b f =
     let m = moves-on s at h e in
     on-from fuel s (readRecord s at .place) h (m .1) (omega (arith, m .0)))
 
--- Every short recording is read to its end or to a record that is declined, and its records are the split's
-pub read-on : (s : List ℕ) → length s ≤ longest → (last : ℕ) × ReadOn s 0 (split s .items) last (split s .number)
+-- Every short recording is read to its end or to a record that is declined, and its records, the place and the number are the split's
+pub read-on : (s : List ℕ) → length s ≤ longest → ReadOn s 0 (split s .items) (split s .place) (split s .number)
 read-on s h = on-from (length s) s 0 h (omega arith) (omega arith)
 
 -- ---- What was read is determined
@@ -161,6 +178,17 @@ same-parts {s} e (reads {r = r} k p y) (reads {r = r′} l q x) =
 pub reader-alone : (s : List ℕ) (rs rs′ : List Record) (last last′ n n′ : ℕ) → ReadOn s 0 rs last n → ReadOn s 0 rs′ last′ n′
     → (rs ≡ rs′) × (last ≡ last′) × (n ≡ n′)
 reader-alone s rs rs′ last last′ n n′ x y = same-parts refl x y
+
+-- Where it ends with a number, the record at that place is declined with it
+declined-there : {s : List ℕ} {at last m n : ℕ} {rs : List Record} → ReadOn s at rs last m → m ≡ suc n
+    → (last < length s) × (readRecord s last ≡ refused (suc n))
+declined-there atEnd e = absurd (omega arith)
+declined-there (declines l q) e = (l, q ∙ ap refused e)
+declined-there (reads l q x) e = declined-there x e
+
+pub declined-at : (s : List ℕ) (rs : List Record) (last m n : ℕ) → ReadOn s 0 rs last m → m ≡ suc n
+    → (last < length s) × (readRecord s last ≡ refused (suc n))
+declined-at s rs last m n x e = declined-there x e
 
 -- ---- The accepted records alone
 
@@ -206,8 +234,8 @@ cut-read s at last h e p l =
 
 -- Where the recording is cut at the place that the reader came to
 record Alone (s : List ℕ) (at : ℕ) (rs : List Record) (last : ℕ) : Type 0 where
-  items : split (drop at (take last s)) .items ≡ rs
-  number : split (drop at (take last s)) .number ≡ 0
+  items : splitAt at (take last s) .items ≡ rs
+  number : splitAt at (take last s) .number ≡ 0
   onward : at ≤ last
   within : last ≤ length s
 
@@ -232,9 +260,9 @@ alone-more s at p last r rs h e x =
     let v = x .within in
     let c : readRecord (take last s) at ≡ found r p = cut-read s at last h z (omega arith) v ∙ e in
     let n : length (take last s) ≡ last = length-take-le last s v in
-    let q : split (drop at (take last s)) ≡ precedes r (split (drop p (take last s))) =
+    let q : splitAt at (take last s) ≡ precedes r (splitAt p (take last s)) =
     split-next (take last s) at (omega arith) (ap (λ (f : Reading). f .number) c)
-    ∙ ap (λ (f : Reading). precedes (f .item) (split (drop (f .place) (take last s)))) c in
+    ∙ ap (λ (f : Reading). precedes (f .item) (splitAt (f .place) (take last s))) c in
     record {
       items = ap (λ (y : Split). y .items) q ∙ ap (λ (l : List Record). r ∷ l) (x .items);
       number = ap (λ (y : Split). y .number) q ∙ x .number;
@@ -263,21 +291,21 @@ read-fits s h =
     decoded-fits (kindOf s) (four s 1) (four s 5) (eight s 5) (four-fits s 1 h) (four-fits s 5 h)
     (both-fit (four s 5) (four s 9) (four-fits s 5 h) (four-fits s 9 h))
 
-by-number : (n : ℕ) (x : Split) → AllFit (x .items) → AllFit (ifRefused n (stops n) x .items)
-by-number zero x h = h
-by-number (suc n) x h = tt
+by-number : (at n : ℕ) (x : Split) → AllFit (x .items) → AllFit (ifRefused n (stops at n) x .items)
+by-number at zero x h = h
+by-number at (suc n) x h = tt
 
-from-fit : (k : ℕ) (s : List ℕ) → Bytes s → AllFit (splitFrom k s .items)
+from-fit : (at k : ℕ) (s : List ℕ) → Bytes s → AllFit (splitFrom at k s .items)
 unfolding splitFrom
-from-fit k [] h = tt
-from-fit zero (b ∷ s) h =
-    by-number (recordNumber (b ∷ s)) (precedes (recordOf (b ∷ s)) (splitFrom (bodySize b) s))
-    (read-fits (b ∷ s) h, from-fit (bodySize b) s (λ j. h (suc j)))
-from-fit (suc k) (b ∷ s) h = from-fit k s (λ j. h (suc j))
+from-fit at k [] h = tt
+from-fit at zero (b ∷ s) h =
+    by-number at (recordNumber (b ∷ s)) (precedes (recordOf (b ∷ s)) (splitFrom (at + size b) (bodySize b) s))
+    (read-fits (b ∷ s) h, from-fit (at + size b) (bodySize b) s (λ j. h (suc j)))
+from-fit at (suc k) (b ∷ s) h = from-fit at k s (λ j. h (suc j))
 
 -- Values and budgets are below 2 ^ 32, words below 2 ^ 64
 pub items-fit : (s : List ℕ) → Bytes s → AllFit (split s .items)
-items-fit s h = from-fit 0 s h
+items-fit s h = from-fit 0 0 s h
 
 -- A recording that is too long is declined at its start
 pub too-long : (s : List ℕ) → longest < length s → ReadOn s 0 [] 0 9
@@ -286,17 +314,17 @@ too-long s h = declines {at = 0} {n = 8} (omega arith) (rw (lt-ltb longest (leng
 
 -- ---- The number that ends the records
 
-either-at-most : (n : ℕ) (x : Split) → n ≤ 8 → x .number ≤ 8 → ifRefused n (stops n) x .number ≤ 8
-either-at-most zero x h l = l
-either-at-most (suc n) x h l = h
+either-not-nine : (at n : ℕ) (x : Split) → eqb n 9 ≡ false → eqb (x .number) 9 ≡ false → eqb (ifRefused n (stops at n) x .number) 9 ≡ false
+either-not-nine at zero x h l = l
+either-not-nine at (suc n) x h l = h
 
-from-at-most : (k : ℕ) (s : List ℕ) → splitFrom k s .number ≤ 8
+from-not-nine : (at k : ℕ) (s : List ℕ) → eqb (splitFrom at k s .number) 9 ≡ false
 unfolding splitFrom
-from-at-most k [] = omega arith
-from-at-most zero (b ∷ s) =
-    either-at-most (recordNumber (b ∷ s)) (precedes (recordOf (b ∷ s)) (splitFrom (bodySize b) s)) (record-at-most (b ∷ s))
-    (from-at-most (bodySize b) s)
-from-at-most (suc k) (b ∷ s) = from-at-most k s
+from-not-nine at k [] = refl
+from-not-nine at zero (b ∷ s) =
+    either-not-nine at (recordNumber (b ∷ s)) (precedes (recordOf (b ∷ s)) (splitFrom (at + size b) (bodySize b) s)) (not-nine (b ∷ s))
+    (from-not-nine (at + size b) (bodySize b) s)
+from-not-nine at (suc k) (b ∷ s) = from-not-nine at k s
 
-pub numbers : (s : List ℕ) → split s .number ≤ 8
-numbers s = from-at-most 0 s
+pub ends-not-nine : (s : List ℕ) → eqb (split s .number) 9 ≡ false
+ends-not-nine s = from-not-nine 0 0 s

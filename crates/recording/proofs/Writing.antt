@@ -12,8 +12,9 @@ use Rattle.words.specs.Tests.{implies}
 use Rattle.words.proofs.Tests.{contradiction, and-true}
 use Rattle.words.proofs.Bytes.{sets-outside}
 use Rattle.machine.specs.declared.Answer.{Answer}
-use Rattle.machine.specs.Address.{registerAt}
-use Rattle.machine.specs.Refusals.{check, isRegister, ifRefused}
+use Rattle.machine.specs.Address.{aligned, registerAt}
+use Rattle.machine.specs.Refusals.{check, isRegister, ifRefused, tenAsFive}
+use Rattle.machine.proofs.Address.{register-aligned}
 use Rattle.machine.proofs.Refusals.{if-accepted, if-refused}
 use Rattle.recording.specs.declared.Fields.{Fields}
 use Rattle.recording.specs.Kinds.{isKind, accesses, runsOrTicks, storesOrChecks, size, decoded, kindOf, recordOf}
@@ -30,14 +31,16 @@ use Rattle.recording.proofs.Splitting.{read-accepted, drop-take}
 
 -- ---- The answers for some records, by computation
 
--- The writer's numbers where there is no room: unknown kinds, 0x04040020 for a register and 0x03F00000 for memory come first. A BREAK has no address
+-- The writer's numbers where there is no room: unknown kinds, 0x04040021 and 0x04040020 for a register and 0x03F00000 for memory come first. A BREAK
+-- has no address
 pub numbers-of-writes : (writeNumber (ofKind 0 0 0) 0 0 ≡ 7)
     × (writeNumber (ofKind 10 0 0) 0 0 ≡ 7)
+    × (writeNumber (ofKind 1 0x04040021 0) 0 0 ≡ 10)
     × (writeNumber (ofKind 1 0x04040020 0) 0 0 ≡ 5)
     × (writeNumber (ofKind 8 0x03F00000 0) 0 0 ≡ 6)
     × (writeNumber (ofKind 6 0x04040020 0) 0 0 ≡ 14)
 unfolding writeNumber recordBy decoded registerAt
-numbers-of-writes = (refl, refl, refl, refl, refl)
+numbers-of-writes = (refl, refl, refl, refl, refl, refl)
 
 -- The last place of a BREAK and the one after it, in a buffer of one byte and in one that is longer than a recording; and the largest place
 pub room-edges : (writeNumber (ofKind 6 0 0) 0 1 ≡ 0)
@@ -86,55 +89,64 @@ of-address P false r x y e = refl
 
 address-checks : (f : Fields)
     → addressNumber (recordBy f)
-    ≡ check (implies (accesses (f .kind)) (isRegister (registerAt (f .address)))) 5
-    (check (implies (storesOrChecks (f .kind)) (memoryAllowed (f .address))) 6 0)
+    ≡ check (implies (accesses (f .kind)) (aligned (f .address))) 10
+    (check (implies (accesses (f .kind)) (isRegister (registerAt (f .address)))) 5
+    (check (implies (storesOrChecks (f .kind)) (memoryAllowed (f .address))) 6 0))
 unfolding recordBy
 address-checks f =
     let k = f .kind in
     address-number k (firstField f) (low f) (f .value)
     ∙ rw (
+      of-address aligned (accesses k) (runsOrTicks k) (low f) (f .address) (no-run-accesses k),
       of-address (λ (a : ℕ). isRegister (registerAt a)) (accesses k) (runsOrTicks k) (low f) (f .address) (no-run-accesses k),
       of-address memoryAllowed (storesOrChecks k) (runsOrTicks k) (low f) (f .address) (no-run-stores k),
     )
 
 -- The same over bare tests
-record GivenBy (n : ℕ) (known accesses stores register memory room : Bool) : Type 0 where
+record GivenBy (n : ℕ) (known accesses stores multiple register memory room : Bool) : Type 0 where
   byKind : eqb n 7 ≡ not known
-  byRegister : eqb n 5 ≡ known && accesses && not register
+  byMultiple : eqb n 10 ≡ known && accesses && not multiple
+  byRegister : eqb n 5 ≡ known && accesses && multiple && not register
   byMemory : eqb n 6 ≡ known && stores && not memory
   byRoom : eqb n 14 ≡ known && (implies accesses register && implies stores memory) && not room
   byNone : eqb n 0 ≡ known && (implies accesses register && implies stores memory) && room
-  others : eqb n 0 || eqb n 5 || eqb n 6 || eqb n 7 || eqb n 14 ≡ true
+  others : eqb n 0 || eqb n 5 || eqb n 6 || eqb n 7 || eqb n 10 || eqb n 14 ≡ true
+  asOne : tenAsFive n ≡ check known 7 (check (implies accesses register) 5 (check (implies stores memory) 6 (check room 14 0)))
 
-first-fails : (k a s r m room : Bool) → a && s ≡ false
-    → GivenBy (check k 7 (before (check (implies a r) 5 (check (implies s m) 6 0)) (check room 14 0))) k a s r m room
-first-fails false a s r m room e = search
-first-fails true true true r m room e = contradiction refl e
-first-fails true true false true m true e = search
-first-fails true true false true m false e = search
-first-fails true true false false m room e = search
-first-fails true false true r true true e = search
-first-fails true false true r true false e = search
-first-fails true false true r false room e = search
-first-fails true false false r m true e = search
-first-fails true false false r m false e = search
+first-fails : (k a s x r m room : Bool) → a && s ≡ false → implies r x ≡ true
+    → GivenBy (check k 7 (before (check (implies a x) 10 (check (implies a r) 5 (check (implies s m) 6 0))) (check room 14 0))) k a s x r m room
+first-fails false a s x r m room e h = search
+first-fails true true true x r m room e h = contradiction refl e
+first-fails true true false false true m room e h = contradiction h refl
+first-fails true true false false false m room e h = search
+first-fails true true false true true m true e h = search
+first-fails true true false true true m false e h = search
+first-fails true true false true false m room e h = search
+first-fails true false true x r true true e h = search
+first-fails true false true x r true false e h = search
+first-fails true false true x r false room e h = search
+first-fails true false false x r m true e h = search
+first-fails true false false x r m false e h = search
 
 pub write-numbers : (f : Fields) (at n : ℕ) → WriteNumbers f at n
 unfolding writeNumber
 write-numbers f at n =
     let k = f .kind in
-    let g : GivenBy (writeNumber f at n) (isKind k) (accesses k) (storesOrChecks k) (isRegister (registerAt (f .address))) (memoryAllowed (f .address))
+    let a = f .address in
+    let g : GivenBy (writeNumber f at n) (isKind k) (accesses k) (storesOrChecks k) (aligned a) (isRegister (registerAt a)) (memoryAllowed a)
     (hasRoom at k n)
     = rw (address-checks f)
-    (first-fails (isKind k) (accesses k) (storesOrChecks k) (isRegister (registerAt (f .address))) (memoryAllowed (f .address)) (hasRoom at k n)
-    (one-address k)) in
+    (first-fails (isKind k) (accesses k) (storesOrChecks k) (aligned a) (isRegister (registerAt a)) (memoryAllowed a) (hasRoom at k n)
+    (one-address k) (register-aligned a)) in
     record {
       kindNumber = g .byKind;
+      alignedNumber = g .byMultiple;
       registerNumber = g .byRegister;
       memoryNumber = g .byMemory;
       roomNumber = g .byRoom;
       success = g .byNone;
       noOther = g .others;
+      asBefore = g .asOne;
     }
 
 -- ---- What the number 0 says of the record

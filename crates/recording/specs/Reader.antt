@@ -6,7 +6,7 @@ use mathlib.Core.List.{List}
 use lib.Dec.{ltb, leb, eqb}
 use lib.ListN.{length, drop}
 use Rattle.machine.specs.Address.{registerAt}
-use Rattle.machine.specs.Refusals.{check, isRegister, ifRefused}
+use Rattle.machine.specs.Refusals.{check, registerNumber, ifRefused}
 use Rattle.recording.specs.declared.Record.{Record}
 use Rattle.recording.specs.declared.Record.the-variants.{None, Write, Read, SpRun, DpRun, Tick, Break, Acknowledge, Store, Check}
 use Rattle.recording.specs.declared.Reading.{Reading}
@@ -16,17 +16,14 @@ use Rattle.recording.specs.Kinds.{isKind, size, kindOf, recordOf}
 abbrev pub memoryAllowed : ℕ → Bool
 memoryAllowed a = eqb (a % 8) 0 && (ltb a 0x03F00000 || (leb 0x04000000 a && ltb a 0x04002000))
 
-abbrev pub registerNumber : ℕ → ℕ
-registerNumber a = check (isRegister (registerAt a)) 5 0
-
 abbrev pub memoryNumber : ℕ → ℕ
 memoryNumber a = check (memoryAllowed a) 6 0
 
 -- The number of the check of a record's address
 abbrev pub addressNumber : Record → ℕ
 addressNumber None = 0
-addressNumber (Write a v) = registerNumber a
-addressNumber (Read a v) = registerNumber a
+addressNumber (Write a v) = registerNumber (registerAt a)
+addressNumber (Read a v) = registerNumber (registerAt a)
 addressNumber (SpRun b) = 0
 addressNumber (DpRun b) = 0
 addressNumber (Tick n) = 0
@@ -36,7 +33,7 @@ addressNumber (Store a w) = memoryNumber a
 addressNumber (Check a w) = memoryNumber a
 
 -- The number of the first check that fails for the record that bytes begin with: 8 where there is no byte at all, 7 unknown kind, 8 cut
--- short, 5 not a register, 6 memory address not allowed
+-- short, 10 register address not a multiple of 4, 5 not a register, 6 memory address not allowed
 unfoldable pub recordNumber : List ℕ → ℕ
 recordNumber s =
     check (ltb 0 (length s)) 8

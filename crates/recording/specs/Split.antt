@@ -1,38 +1,40 @@
 -- A recording as the records that it holds.
-use Prim.Native.Nat.{ℕ, zero, suc, _<_}
+use Prim.Native.Nat.{ℕ, zero, suc, _+_, _<_}
 use mathlib.Core.Path.{_≡_}
 use mathlib.Core.Bool.{Bool, not, _&&_, _||_}
 use mathlib.Core.List.{List, [], _∷_}
 use lib.Dec.{ltb, leb, eqb}
 use lib.ListN.{length}
 use Rattle.words.specs.Tests.{implies}
-use Rattle.machine.specs.Address.{registerAt}
-use Rattle.machine.specs.Refusals.{isRegister, ifRefused}
+use Rattle.machine.specs.Address.{aligned, registerAt}
+use Rattle.machine.specs.Refusals.{check, isRegister, ifRefused, tenAsFive}
 use Rattle.recording.specs.declared.Record.{Record}
 use Rattle.recording.specs.Kinds.{four, isKind, accesses, storesOrChecks, bodySize, size, kindOf, recordOf}
 use Rattle.recording.specs.Fields.{Fits}
 use Rattle.recording.specs.Reader.{memoryAllowed, recordNumber, refused, found, readRecord}
 
--- The records that are accepted, in order, and the number of the one that is declined after them, 0 if none is left
+-- The records that are accepted, in order, the place after them, and the number of the one that begins there and is declined, 0 if none is left
 pub record Split : Type 0 where
   pub items : List Record
+  pub place : ℕ
   pub number : ℕ
 
-abbrev pub stops : ℕ → Split
-stops n = record { items = []; number = n }
+abbrev pub stops : ℕ → ℕ → Split
+stops at n = record { items = []; place = at; number = n }
 
 abbrev pub precedes : Record → Split → Split
-precedes r x = record { items = r ∷ x .items; number = x .number }
+precedes r x = record { items = r ∷ x .items; place = x .place; number = x .number }
 
--- The records of bytes, of which the first `skip` are passed over: they are the rest of a body
-unfoldable pub splitFrom : ℕ → List ℕ → Split
-splitFrom skip [] = stops 0
-splitFrom zero (b ∷ s) =
-    ifRefused (recordNumber (b ∷ s)) (stops (recordNumber (b ∷ s))) (precedes (recordOf (b ∷ s)) (splitFrom (bodySize b) s))
-splitFrom (suc skip) (b ∷ s) = splitFrom skip s
+-- The records of bytes, of which the first `skip` are passed over: they are the rest of a body. Those after them stand at the place `at` of a
+-- recording
+unfoldable pub splitFrom : ℕ → ℕ → List ℕ → Split
+splitFrom at skip [] = stops at 0
+splitFrom at zero (b ∷ s) =
+    ifRefused (recordNumber (b ∷ s)) (stops at (recordNumber (b ∷ s))) (precedes (recordOf (b ∷ s)) (splitFrom (at + size b) (bodySize b) s))
+splitFrom at (suc skip) (b ∷ s) = splitFrom at skip s
 
 abbrev pub split : List ℕ → Split
-split s = splitFrom 0 s
+split s = splitFrom 0 0 s
 
 -- ---- What is proved of it
 
@@ -52,10 +54,18 @@ whole s = ltb 0 (length s) && isKind (kindOf s) && leb (size (kindOf s)) (length
 pub record RecordGiven (s : List ℕ) : Type 0 where
   pub kindNumber : eqb (recordNumber s) 7 ≡ ltb 0 (length s) && not (isKind (kindOf s))
   pub cutNumber : eqb (recordNumber s) 8 ≡ not (ltb 0 (length s)) || (isKind (kindOf s) && not (leb (size (kindOf s)) (length s)))
-  pub registerNumber : eqb (recordNumber s) 5 ≡ whole s && accesses (kindOf s) && not (isRegister (registerAt (four s 1)))
+  pub alignedNumber : eqb (recordNumber s) 10 ≡ whole s && accesses (kindOf s) && not (aligned (four s 1))
+  pub registerNumber : eqb (recordNumber s) 5 ≡ whole s && accesses (kindOf s) && aligned (four s 1) && not (isRegister (registerAt (four s 1)))
   pub memoryNumber : eqb (recordNumber s) 6 ≡ whole s && storesOrChecks (kindOf s) && not (memoryAllowed (four s 1))
   pub success : eqb (recordNumber s) 0
       ≡ whole s && implies (accesses (kindOf s)) (isRegister (registerAt (four s 1))) && implies (storesOrChecks (kindOf s)) (memoryAllowed (four s 1))
+  -- With 10 read as 5 it is what it was when 5 stood for both
+  pub asBefore : tenAsFive (recordNumber s)
+      ≡ check (ltb 0 (length s)) 8
+      (check (isKind (kindOf s)) 7
+      (check (leb (size (kindOf s)) (length s)) 8
+      (check (implies (accesses (kindOf s)) (isRegister (registerAt (four s 1)))) 5
+      (check (implies (storesOrChecks (kindOf s)) (memoryAllowed (four s 1))) 6 0))))
 
 -- 9 exactly where the recording is longer than 16,383 bytes, at every place
 abbrev pub LengthGiven : List ℕ → Type 0

@@ -40,8 +40,8 @@ hasRoom at kind n = leb (at + size kind) n && leb (at + size kind) longest
 abbrev pub before : ℕ → ℕ → ℕ
 before number later = ifRefused number number later
 
--- The number of the first check that fails for a record at a place of a buffer of n bytes: 7 unknown kind, 5 not a register, 6 memory address
--- not allowed, 14 does not fit
+-- The number of the first check that fails for a record at a place of a buffer of n bytes: 7 unknown kind, 10 register address not a multiple of
+-- 4, 5 not a register, 6 memory address not allowed, 14 does not fit
 unfoldable pub writeNumber : Fields → ℕ → ℕ → ℕ
 writeNumber f at n = check (isKind (f .kind)) 7 (before (addressNumber (recordBy f)) (check (hasRoom at (f .kind) n) 14 0))
 

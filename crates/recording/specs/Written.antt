@@ -7,8 +7,8 @@ use lib.Dec.{leb, eqb}
 use lib.ListN.{length, getD, take, drop}
 use Rattle.words.specs.Tests.{implies}
 use Rattle.machine.specs.declared.Answer.{Answer}
-use Rattle.machine.specs.Address.{registerAt}
-use Rattle.machine.specs.Refusals.{check, isRegister}
+use Rattle.machine.specs.Address.{aligned, registerAt}
+use Rattle.machine.specs.Refusals.{check, isRegister, tenAsFive}
 use Rattle.recording.specs.declared.Record.{Record}
 use Rattle.recording.specs.declared.Fields.{Fields}
 use Rattle.recording.specs.declared.Reading.{Reading}
@@ -28,7 +28,9 @@ addressAllowed f =
 -- Each number exactly in its case, by the first that applies, and 0 where none does: for a record at a place of a buffer of n bytes
 pub record WriteNumbers (f : Fields) (at n : ℕ) : Type 0 where
   pub kindNumber : eqb (writeNumber f at n) 7 ≡ not (isKind (f .kind))
-  pub registerNumber : eqb (writeNumber f at n) 5 ≡ isKind (f .kind) && accesses (f .kind) && not (isRegister (registerAt (f .address)))
+  pub alignedNumber : eqb (writeNumber f at n) 10 ≡ isKind (f .kind) && accesses (f .kind) && not (aligned (f .address))
+  pub registerNumber : eqb (writeNumber f at n) 5
+      ≡ isKind (f .kind) && accesses (f .kind) && aligned (f .address) && not (isRegister (registerAt (f .address)))
   pub memoryNumber : eqb (writeNumber f at n) 6 ≡ isKind (f .kind) && storesOrChecks (f .kind) && not (memoryAllowed (f .address))
   pub roomNumber : eqb (writeNumber f at n) 14 ≡ isKind (f .kind) && addressAllowed f && not (hasRoom at (f .kind) n)
   pub success : eqb (writeNumber f at n) 0 ≡ isKind (f .kind) && addressAllowed f && hasRoom at (f .kind) n
@@ -37,8 +39,15 @@ pub record WriteNumbers (f : Fields) (at n : ℕ) : Type 0 where
       || eqb (writeNumber f at n) 5
       || eqb (writeNumber f at n) 6
       || eqb (writeNumber f at n) 7
+      || eqb (writeNumber f at n) 10
       || eqb (writeNumber f at n) 14
       ≡ true
+  -- With 10 read as 5 it is what it was when 5 stood for both
+  pub asBefore : tenAsFive (writeNumber f at n)
+      ≡ check (isKind (f .kind)) 7
+      (check (implies (accesses (f .kind)) (isRegister (registerAt (f .address)))) 5
+      (check (implies (storesOrChecks (f .kind)) (memoryAllowed (f .address))) 6
+      (check (hasRoom at (f .kind) n) 14 0)))
 
 -- ---- One record, written and read
 
@@ -91,16 +100,17 @@ pub data Appends : List ℕ → ℕ → List Record → List ℕ → ℕ → Typ
   declines : {d d₁ d′ : List ℕ} {at last n : ℕ} {f : Fields} {r : Answer} {rs : List Record} → WriteRecordGives f at d r d₁
       → r .number ≡ suc n → Appends d₁ at rs d′ last → Appends d at rs d′ last
 
--- A recording whose records are all accepted
-abbrev pub allOf : List Record → Split
-allOf rs = record { items = rs; number = 0 }
+-- A recording of n bytes whose records are all accepted
+abbrev pub allOf : ℕ → List Record → Split
+allOf n rs = record { items = rs; place = n; number = 0 }
 
 -- The bytes up to the place after the last one are a recording: its records are those before and then those appended
 pub record Appended (qs rs : List Record) (d d′ : List ℕ) (last : ℕ) : Type 0 where
-  pub records : split (take last d′) ≡ allOf (qs ++ rs)
+  pub records : split (take last d′) ≡ allOf last (qs ++ rs)
   pub lengthKept : length d′ ≡ length d
   pub within : (last ≤ length d′) × (last ≤ 16383)
 
 abbrev pub EveryAppend : Type 0
 EveryAppend = (d : List ℕ) (at : ℕ) (qs rs : List Record) (d′ : List ℕ) (last : ℕ)
-    → at ≤ length d → at ≤ 16383 → split (take at d) ≡ allOf qs → Appends d at rs d′ last → Appended qs rs d d′ last
+    → at ≤ length d → at ≤ 16383 → split (take at d) .items ≡ qs → split (take at d) .number ≡ 0 → Appends d at rs d′ last
+    → Appended qs rs d d′ last

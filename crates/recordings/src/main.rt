@@ -7,10 +7,10 @@ fn is_listed(recording: i32, expected: i32) -> bool {
     let mut rdram = [0u8; 32768];
     let mut dmem = [0u8; 4096];
     let mut imem = [0u8; 4096];
-    let mut out = [0u8; 69198];
+    let mut out = [0u8; 69204];
     let length = console::listing_from(recording, &mut rdram, &mut dmem, &mut imem, &mut out);
     // One byte more than any listing has.
-    let mut listing = [0u8; 69199];
+    let mut listing = [0u8; 69205];
     let n = io::read_full(expected, &mut listing);
     check::same(&out[..length], &listing[..n])
 }

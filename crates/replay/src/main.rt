@@ -6,7 +6,7 @@ fn main() {
     let mut rdram = [0u8; 32768];
     let mut dmem = [0u8; 4096];
     let mut imem = [0u8; 4096];
-    let mut out = [0u8; 69198];
+    let mut out = [0u8; 69204];
     let length = console::listing_from(STDIN_FILENO, &mut rdram, &mut dmem, &mut imem, &mut out);
     io::write_all(STDOUT_FILENO, &out[..length]);
 }

@@ -52,6 +52,7 @@ impl From<ofersky::Outcome> for Left {
 
 impl From<ofersky::Replayed> for Left {
     fn from(replayed: ofersky::Replayed) -> Left {
+        assert_eq!(replayed.place, 0);
         replayed.outcome.into()
     }
 }

@@ -54,6 +54,7 @@ fn numbers(seen: &Seen) -> Vec<(&'static str, u64)> {
         ("reading.value", item.value),
         ("reading.place", place as u64),
         ("written", seen.written as u64),
+        ("place", seen.place as u64),
         ("bytes beside the lent ones changed", seen.outside.into()),
     ];
     let state = &seen.outcome.state;

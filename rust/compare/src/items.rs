@@ -16,7 +16,7 @@ pub fn any_item(random: &mut Random) -> Record {
         _ => known_kind(random),
     };
     let item = good_item(random, kind);
-    if random.once_in(4) {
+    if random.once_in(3) {
         let address = other_address(random, kind);
         return Record { address, ..item };
     }
@@ -50,7 +50,7 @@ pub fn good_item(random: &mut Random, kind: u8) -> Record {
 /// An address that this kind does not allow, if it has one; also one that another kind would allow.
 fn other_address(random: &mut Random, kind: u8) -> u32 {
     match kind {
-        1 | 2 if random.once_in(3) => memory_address(random, RDRAM),
+        1 | 2 if random.once_in(4) => memory_address(random, RDRAM),
         1 | 2 => not_register(random),
         _ if random.once_in(3) => register(random),
         _ => bad_memory_address(random, RDRAM),

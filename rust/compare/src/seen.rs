@@ -14,6 +14,8 @@ pub struct Seen {
     pub part: Part,
     pub reading: Reading,
     pub written: usize,
+    /// Where the record begins that a replay refused.
+    pub place: usize,
     /// A byte beside a lent memory or output was changed.
     pub outside: bool,
     /// The bytes of RDRAM, DMEM, IMEM, of the output or the buffer, and those of the next word after a look.
@@ -94,7 +96,8 @@ fn call_library(case: &Case, seen: &mut Seen, lent: [&mut [u8]; 4]) {
         }
         Call::Replay { recording, .. } => {
             let replayed = ofersky::replay(s, recording, rdram, dmem, imem, out);
-            (seen.outcome, seen.written) = (replayed.outcome, replayed.written);
+            seen.outcome = replayed.outcome;
+            (seen.written, seen.place) = (replayed.written, replayed.place);
         }
     }
 }
@@ -129,7 +132,8 @@ pub fn model(case: &Case) -> Seen {
         Call::WriteRecord { item, place, .. } => seen.outcome.answer = written(item, out, *place),
         Call::Replay { recording, .. } => {
             let replayed = calls::replay(s, recording, rdram, dmem, imem, out);
-            (seen.outcome, seen.written) = (given(replayed.outcome), replayed.written);
+            seen.outcome = given(replayed.outcome);
+            (seen.written, seen.place) = (replayed.written, replayed.place);
         }
     }
     seen

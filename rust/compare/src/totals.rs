@@ -3,10 +3,17 @@
 use crate::call::{Call, Case, NAMES};
 use crate::events::{Event, Events};
 use crate::seen::Seen;
+use model::machine::REGISTERS;
 use std::sync::Mutex;
 
 /// The numbers that calls give: success and the refusals up to 14.
 const NUMBERS: usize = 15;
+
+/// The number of a register address that is not a multiple of 4.
+const MISALIGNED: usize = 10;
+
+/// The replays among the calls.
+const REPLAY: usize = NAMES.len() - 1;
 
 /// Counts of cases.
 #[derive(Clone, Debug, Default)]
@@ -17,15 +24,25 @@ pub struct Totals {
     /// The records that replays accepted, and the replays that stopped at one or before the first.
     pub records: u64,
     pub stopped: u64,
+    /// Those of them that stopped at a place other than 0, by number.
+    pub later: [u64; NUMBERS],
+    /// The addresses that are not a multiple of 4, by call: within the blocks of registers, and elsewhere.
+    pub misaligned: [[u64; 2]; NAMES.len()],
     pub events: Events,
 }
 
 impl Totals {
     pub fn count(&mut self, case: &Case, seen: &Seen) {
-        self.answers[case.call.index()][seen.number() as usize] += 1;
-        if let Call::Replay { .. } = case.call {
+        let (call, number) = (case.call.index(), seen.number() as usize);
+        self.answers[call][number] += 1;
+        if number == MISALIGNED {
+            let within = REGISTERS.contains(&(refused_address(case, seen) & !3));
+            self.misaligned[call][usize::from(!within)] += 1;
+        }
+        if call == REPLAY {
             self.records += u64::from(seen.outcome.answer.count);
-            self.stopped += u64::from(seen.number() != 0);
+            self.stopped += u64::from(number != 0);
+            self.later[number] += u64::from(seen.place != 0);
         }
     }
 
@@ -33,22 +50,28 @@ impl Totals {
         self.compared += other.compared;
         self.records += other.records;
         self.stopped += other.stopped;
-        for (mine, others) in self.answers.iter_mut().zip(&other.answers) {
-            for (mine, others) in mine.iter_mut().zip(others) {
-                *mine += others;
-            }
-        }
+        add_each(
+            self.answers.as_flattened_mut(),
+            other.answers.as_flattened(),
+        );
+        add_each(&mut self.later, &other.later);
+        add_each(
+            self.misaligned.as_flattened_mut(),
+            other.misaligned.as_flattened(),
+        );
         self.events.add(&other.events);
     }
 
     /// The line of a test that compares recordings.
     pub fn recordings_line(&self) -> String {
         format!(
-            "compared {} recordings: {} records, {} stopped{}",
+            "compared {} recordings: {} records, {} stopped{}, {} of them past place 0{}",
             grouped(self.compared),
             grouped(self.records),
             grouped(self.stopped),
-            refusals(&self.answers[NAMES.len() - 1])
+            refusals(&self.answers[REPLAY]),
+            grouped(self.later.iter().sum()),
+            refusals(&self.later)
         )
     }
 
@@ -72,8 +95,7 @@ impl Totals {
 
     /// Each of these numbers was given by this call at least so often.
     pub fn expect_numbers(&self, call: &str, numbers: &[usize], least: u64) {
-        let index = NAMES.iter().position(|name| *name == call);
-        let answers = &self.answers[index.expect("a call's name")];
+        let answers = &self.answers[index(call)];
         for number in numbers {
             let seen = answers[*number];
             assert!(
@@ -83,12 +105,60 @@ impl Totals {
         }
     }
 
+    /// By each of these numbers, replays stopped at least so often at place 0, and so often at another.
+    pub fn expect_places(&self, numbers: &[usize], at_0: u64, later: u64) {
+        for number in numbers {
+            let others = self.later[*number];
+            let zeros = self.answers[REPLAY][*number] - others;
+            assert!(
+                zeros >= at_0 && others >= later,
+                "number {number} stopped {zeros} replays at place 0 and {others} at others"
+            );
+        }
+    }
+
+    /// This call refused misaligned addresses at least so often within the blocks of registers, and so often elsewhere.
+    pub fn expect_misaligned(&self, call: &str, least: u64) {
+        let seen = self.misaligned[index(call)];
+        assert!(
+            seen.iter().all(|seen| *seen >= least),
+            "{call} refused misaligned addresses within the blocks and elsewhere: {seen:?}"
+        );
+    }
+
     /// Each of these events was seen at least so often.
     pub fn expect_events(&self, events: &[Event], least: u64) {
         for event in events {
             let seen = self.events.of(*event);
             assert!(seen >= least, "{event:?} was seen only {seen} times");
         }
+    }
+}
+
+/// The place of a call's name among the names.
+fn index(call: &str) -> usize {
+    let index = NAMES.iter().position(|name| *name == call);
+    index.expect("a call's name")
+}
+
+fn add_each(mine: &mut [u64], others: &[u64]) {
+    for (mine, others) in mine.iter_mut().zip(others) {
+        *mine += others;
+    }
+}
+
+/// The address that a call refused: its own, or that of the record.
+fn refused_address(case: &Case, seen: &Seen) -> u32 {
+    let of_record = |recording: &[u8], place: usize| {
+        let address = recording[place + 1..place + 5].try_into();
+        u32::from_be_bytes(address.expect("four bytes"))
+    };
+    match &case.call {
+        Call::Read { address } | Call::Write { address, .. } => *address,
+        Call::WriteRecord { item, .. } => item.address,
+        Call::ReadRecord { recording, place } => of_record(recording, *place),
+        Call::Replay { recording, .. } => of_record(recording, seen.place),
+        call => panic!("{} takes no address", call.name()),
     }
 }
 

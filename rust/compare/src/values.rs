@@ -146,16 +146,35 @@ pub fn ticks(random: &mut Random) -> u32 {
     }
 }
 
-/// An address that is no register's: beside the registers, not a multiple of 4, a mirror, or any.
+/// An address that is no register's, for either reason.
 pub fn not_register(random: &mut Random) -> u32 {
+    if random.once_in(2) {
+        misaligned(random)
+    } else {
+        outside(random)
+    }
+}
+
+/// An address that is not a multiple of 4: within the blocks of registers or outside.
+fn misaligned(random: &mut Random) -> u32 {
+    let word = if random.once_in(2) {
+        register(random)
+    } else {
+        outside(random)
+    };
+    word + 1 + random.below(3) as u32
+}
+
+/// A multiple of 4 that is no register's address: beside the registers, a mirror, or any.
+fn outside(random: &mut Random) -> u32 {
+    let far = [0, 0xFFFF_FFFC, 0x0404_0020, 0x0410_0020, 0x0403_FFFC];
     loop {
         let near = register(random);
-        let address = match random.below(5) {
-            0 => near + random.below(4) as u32,
-            1 => near.wrapping_add(random.word() & 0x3F).wrapping_sub(0x20),
-            2 => near ^ 1 << random.below(32),
-            3 => random.pick(&[0, u32::MAX, 0x0404_0020, 0x0410_0020, 0x0403_FFFC]),
-            _ => random.word(),
+        let address = match random.below(4) {
+            0 => near - 0x20 + random.below(16) as u32 * 4,
+            1 => near ^ 4 << random.below(30),
+            2 => random.pick(&far),
+            _ => random.word() & !3,
         };
         if !REGISTERS.contains(&address) {
             return address;
@@ -185,7 +204,9 @@ pub fn edge_addresses() -> Vec<u32> {
         0x0410_0000,
         0x0410_001C,
     ];
-    let steps = (-9..=9).chain([0x1000, 0x2000, -0x1000, 0x2000_0000, -0x6000_0000, i32::MIN]);
+    let mirrors = [0x1000, 0x2000, -0x1000, 0x2000_0000, -0x6000_0000, i32::MIN];
+    let farther = [-0x20, 0x20, 0x21, 0x24, 0x40, 0x1002];
+    let steps = (-9..=9).chain(farther).chain(mirrors);
     let beside = |edge: u32| {
         steps
             .clone()

@@ -7,11 +7,11 @@ use compare::damage::{bad_address, bad_kind, exactly, flipped, LONGEST};
 use compare::fields::{field, FIELDS, FLAGS};
 use compare::memory::{Lent, LONGEST_RDRAM};
 use compare::random::Random;
-use compare::seen::next_state;
+use compare::seen::{next_state, Seen};
 use compare::states::{break_clause, sound, unsound, BREAKS};
 use compare::totals::{Sum, Totals};
 use compare::traffic::scenes;
-use compare::values::{not_register, register_value, value_for};
+use compare::values::{edge_addresses, not_register, register_value, value_for};
 use model::machine::{DP_STATUS, REGISTERS, SP_STATUS};
 use ofersky::State;
 
@@ -109,7 +109,8 @@ fn addresses_beside_the_registers() {
         read_and_write(&mut comparison, state, address, 0x0F);
     }
     for call in ["read_register", "write_register"] {
-        comparison.totals.expect_numbers(call, &[0, 4, 5], 300);
+        comparison.totals.expect_numbers(call, &[0, 4, 5, 10], 300);
+        comparison.totals.expect_misaligned(call, 1_000);
     }
     done("addresses beside the registers", &comparison.totals);
 }
@@ -292,7 +293,9 @@ fn reading_records() {
     for _ in 0..60 {
         let good = recording(&mut random);
         let mut recordings = vec![bad_kind(&mut random, &good), flipped(&mut random, &good)];
-        recordings.extend(bad_address(&mut random, &good, 4_096));
+        for _ in 0..3 {
+            recordings.extend(bad_address(&mut random, &good, 4_096));
+        }
         recordings.push(good);
         for recording in recordings {
             every_place(&mut comparison, &recording);
@@ -310,19 +313,33 @@ fn reading_records() {
             length,
             usize::MAX,
         ] {
-            let recording = recording.clone();
-            comparison.check(&plain(
-                State::default(),
-                Call::ReadRecord { recording, place },
-            ));
+            read_record(&mut comparison, recording.clone(), place);
         }
     }
     every_place(&mut comparison, &[]);
-    comparison
-        .totals
-        .expect_numbers("read_record", &[0, 5, 6, 7, 8], 200);
-    comparison.totals.expect_numbers("read_record", &[9], 16);
-    done("reading records", &comparison.totals);
+    every_address(&mut comparison);
+    let totals = &comparison.totals;
+    totals.expect_numbers("read_record", &[0, 5, 6, 7, 8, 10], 200);
+    totals.expect_numbers("read_record", &[9], 16);
+    totals.expect_misaligned("read_record", 50);
+    done("reading records", totals);
+}
+
+/// The addresses at the edges of the blocks, in each kind that has an address; and cut, which is told first.
+fn every_address(comparison: &mut Comparison) {
+    for address in edge_addresses() {
+        for (kind, body) in [(1, 4), (2, 4), (8, 8), (9, 8)] {
+            let whole = [&[kind], &address.to_be_bytes()[..], &vec![0xFF; body]].concat();
+            let cut = whole[..whole.len() - 1].to_vec();
+            read_record(comparison, whole, 0);
+            assert_eq!(read_record(comparison, cut, 0).number(), 8);
+        }
+    }
+}
+
+fn read_record(comparison: &mut Comparison, recording: Vec<u8>, place: usize) -> Seen {
+    let call = Call::ReadRecord { recording, place };
+    comparison.check(&plain(State::default(), call))
 }
 
 /// Every place of a recording, some after it, and places whose sum with a length passes the largest number.
@@ -335,10 +352,6 @@ fn every_place(comparison: &mut Comparison, recording: &[u8]) {
         1 << 32,
     ];
     for place in (0..recording.len() + 15).chain(huge) {
-        let recording = recording.to_vec();
-        comparison.check(&plain(
-            State::default(),
-            Call::ReadRecord { recording, place },
-        ));
+        read_record(comparison, recording.to_vec(), place);
     }
 }

@@ -40,6 +40,27 @@ fn case(state: State, lent: Lent, recording: Vec<u8>, out: usize) -> Case {
     }
 }
 
+/// Replays on both sides, and finds the place of a stop again: it is where the accepted records end. The listing must tell it too.
+fn check(comparison: &mut Comparison, case: &Case) -> Seen {
+    let seen = comparison.check(case);
+    let Call::Replay { recording, out } = &case.call else {
+        panic!("{} is no replay", case.call.name());
+    };
+    let (number, count) = (seen.number(), seen.outcome.answer.count);
+    let place = match number {
+        0..=4 | 9 => 0,
+        _ => pieces(recording)[count as usize].start,
+    };
+    assert_eq!(seen.place, place);
+    let last = match number {
+        0 => format!("\nend {count}\n"),
+        _ => format!("\nstop {count} {number} {place}\n"),
+    };
+    let listing = &seen.bytes[3][..seen.written];
+    assert!(seen.written == *out || listing.ends_with(last.as_bytes()));
+    seen
+}
+
 /// Mostly room for every listing; else too little, cut in any line.
 fn room(random: &mut Random) -> usize {
     match random.below(8) {
@@ -93,7 +114,7 @@ fn compare_traffic(
         let (recording, watch) = make(&mut random, &state, &lent, scenes);
         let good = recording.len() <= LONGEST;
         let out = room(&mut random);
-        let seen = comparison.check(&case(state, lent, recording, out));
+        let seen = check(&mut comparison, &case(state, lent, recording, out));
         if good {
             agrees(&seen, &watch);
             comparison.totals.events.add(&watch.events);
@@ -186,7 +207,8 @@ fn drawing_commands() {
             let mut watch = Watch::new(to_model(&state), lent.bytes());
             records.iter().for_each(|record| watch.record(*record));
             let recording = records.iter().flat_map(Record::encode).collect();
-            let seen = comparison.check(&case(state, lent, recording, LISTING_BYTES));
+            let case = case(state, lent, recording, LISTING_BYTES);
+            let seen = check(&mut comparison, &case);
             agrees(&seen, &watch);
             comparison.totals.events.add(&watch.events);
         }
@@ -236,15 +258,16 @@ fn damaged_recordings() {
         }
         for recording in damaged {
             let out = random.pick(&[LISTING_BYTES, 2_000, 20]);
-            comparison.check(&case(state, lent, recording, out));
+            check(&mut comparison, &case(state, lent, recording, out));
         }
     }
     every_kind(&mut comparison);
     every_bad_address(&mut comparison);
-    comparison
-        .totals
-        .expect_numbers("replay", &[0, 5, 6, 7, 8], 200);
-    done("damaged recordings", &comparison.totals);
+    let totals = &comparison.totals;
+    totals.expect_numbers("replay", &[0, 5, 6, 7, 8, 10], 200);
+    totals.expect_places(&[5, 6, 7, 8, 10], 100, 200);
+    totals.expect_misaligned("replay", 100);
+    done("damaged recordings", totals);
 }
 
 /// Each of the 256 kinds after one good record, with the bytes of the longest body and with none.
@@ -254,7 +277,7 @@ fn every_kind(comparison: &mut Comparison) {
             let mut recording = vec![6, kind];
             recording.extend(vec![0; body]);
             let lent = Lent::new(8, 1);
-            comparison.check(&case(ofersky::power_up(), lent, recording, 200));
+            check(comparison, &case(ofersky::power_up(), lent, recording, 200));
         }
     }
 }
@@ -277,7 +300,7 @@ fn every_unsound_state(comparison: &mut Comparison, random: &mut Random) {
         }
     }
     for state in states {
-        let seen = comparison.check(&case(state, Lent::new(64, 2), vec![6], 40));
+        let seen = check(comparison, &case(state, Lent::new(64, 2), vec![6], 40));
         assert_eq!(seen.number(), 4);
     }
 }
@@ -298,40 +321,56 @@ fn lengths_states_and_listings() {
             let length = random.pick(&[LONGEST - 1, LONGEST, LONGEST + 1, 20_000, 65_536]);
             recording = exactly(&recording, length);
         }
+        if random.once_in(3) {
+            // A bad record, too: it plays no part where the replay is refused before the first one.
+            recording = bad_kind(&mut random, &recording);
+        }
         let out = room(&mut random);
-        comparison.check(&case(state, lent, recording, out));
+        check(&mut comparison, &case(state, lent, recording, out));
     }
     every_room(&mut comparison, &mut random);
     every_unsound_state(&mut comparison, &mut random);
-    comparison
-        .totals
-        .expect_numbers("replay", &[1, 2, 3, 4, 9], 100);
-    done("lengths, states and listings", &comparison.totals);
+    let totals = &comparison.totals;
+    totals.expect_numbers("replay", &[1, 2, 3, 4, 9], 100);
+    totals.expect_places(&[1, 2, 3, 4, 9], 100, 0);
+    done("lengths, states and listings", totals);
 }
 
-/// The addresses at the edges of the blocks, in each kind that has an address.
+/// The addresses at the edges of the blocks, in each kind that has an address, after a record and in the first one; and cut, which is told first.
 fn every_bad_address(comparison: &mut Comparison) {
+    let mut replay = |recording: &[u8]| {
+        let (state, lent) = (ofersky::power_up(), Lent::new(4_096, 1));
+        let case = case(state, lent, recording.to_vec(), 200);
+        check(comparison, &case).number()
+    };
     for address in edge_addresses() {
         for (kind, body) in [(1, 4), (2, 4), (8, 8), (9, 8)] {
             let mut recording = vec![7, kind];
             recording.extend(address.to_be_bytes());
             recording.extend(vec![0xFF; body]);
+            let end = recording.len();
             recording.push(6);
-            let lent = Lent::new(4_096, 1);
-            comparison.check(&case(ofersky::power_up(), lent, recording, 200));
+            for from in [0, 1] {
+                replay(&recording[from..]);
+                assert_eq!(replay(&recording[from..end - 1]), 8);
+            }
         }
     }
 }
 
-/// Every length of the buffer up to one byte more than a listing has, for some listings.
+/// Every length of the buffer up to one byte more than a listing has, for some listings. Half of them stop.
 fn every_room(comparison: &mut Comparison, random: &mut Random) {
     let state = ofersky::power_up();
-    for _ in 0..4 {
+    for round in 0..6 {
         let lent = Lent::new(8, 0);
-        let recording = short(random, &lent);
-        let whole = comparison.check(&case(state, lent, recording.clone(), LISTING_BYTES));
+        let mut recording = short(random, &lent);
+        recording.extend(vec![0; round % 2]);
+        let whole = check(
+            comparison,
+            &case(state, lent, recording.clone(), LISTING_BYTES),
+        );
         for out in 0..whole.written + 2 {
-            comparison.check(&case(state, lent, recording.clone(), out));
+            check(comparison, &case(state, lent, recording.clone(), out));
         }
     }
 }
@@ -351,19 +390,30 @@ fn giant(length: u32, first: u32, second: u32) -> Vec<u8> {
     records.iter().flat_map(Record::encode).collect()
 }
 
-/// The recording with the longest listing: reads that differ, and as few checks as fill up its length.
-fn longest_listing() -> Vec<u8> {
-    let read = Record::Read {
+/// A recording with a long listing: so many reads and checks that all differ.
+fn long_listing(reads: usize, checks: usize) -> Vec<u8> {
+    let register = Record::Read {
         address: SP_RDLEN,
         expected: 1,
     };
-    let check = Record::Check {
+    let word = Record::Check {
         address: 0,
         expected: 1,
     };
-    let recording = [read.encode().repeat(1_816), check.encode().repeat(3)].concat();
-    assert_eq!(recording.len(), LONGEST);
-    recording
+    [
+        register.encode().repeat(reads),
+        word.encode().repeat(checks),
+    ]
+    .concat()
+}
+
+/// The longest listings of a replay that ends and of one that stops: as few checks as fill up the recording, without and with a byte that is no kind.
+fn longest_listings() -> [Vec<u8>; 2] {
+    let mut stops = long_listing(1_813, 5);
+    stops.push(0);
+    let recordings = [long_listing(1_816, 3), stops];
+    assert!(recordings.iter().all(|bytes| bytes.len() == LONGEST));
+    recordings
 }
 
 #[test]
@@ -373,18 +423,22 @@ fn giants() {
     for (length, rdram) in [(u32::MAX, 32_768), (0x000F_FFF8, 0), (0xFF8F_FFF8, 1 << 21)] {
         for (first, second) in [(SP_RDLEN, SP_WRLEN), (SP_WRLEN, SP_RDLEN)] {
             let lent = Lent::new(rdram, 9);
-            comparison.check(&case(state, lent, giant(length, first, second), 4_000));
+            let recording = giant(length, first, second);
+            check(&mut comparison, &case(state, lent, recording, 4_000));
         }
     }
     for rdram in [LONGEST_RDRAM, LONGEST_RDRAM + 1, LONGEST_RDRAM + 8] {
         let lent = Lent::new(rdram, 5);
-        comparison.check(&case(state, lent, giant(0x0F, SP_RDLEN, SP_WRLEN), 4_000));
+        let recording = giant(0x0F, SP_RDLEN, SP_WRLEN);
+        check(&mut comparison, &case(state, lent, recording, 4_000));
     }
-    let lent = Lent::new(8, 0);
-    let whole = comparison.check(&case(state, lent, longest_listing(), LISTING_BYTES));
-    assert!(whole.written > 69_000 && whole.written < LISTING_BYTES);
-    for out in [whole.written - 1, whole.written, LISTING_BYTES + 1] {
-        comparison.check(&case(state, lent, longest_listing(), out));
+    for (recording, written) in longest_listings().into_iter().zip([69_188, 69_191]) {
+        let of_room = |out| case(state, Lent::new(8, 0), recording.clone(), out);
+        let whole = check(&mut comparison, &of_room(LISTING_BYTES));
+        assert_eq!(whole.written, written);
+        for out in [written - 1, written, LISTING_BYTES + 1] {
+            check(&mut comparison, &of_room(out));
+        }
     }
     done("giants", &comparison.totals);
 }

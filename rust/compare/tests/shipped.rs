@@ -1,6 +1,6 @@
 //! The recordings that are shipped with their listings, replayed by the library.
 
-use ofersky::LISTING_BYTES;
+use ofersky::{Replayed, LISTING_BYTES};
 use std::fs;
 use std::path::{Path, PathBuf};
 
@@ -12,6 +12,15 @@ fn folder() -> PathBuf {
     Path::new(env!("CARGO_MANIFEST_DIR")).join("../../crates/recordings/data")
 }
 
+/// The last line of a listing, as the call's answer has it.
+fn last_line(replayed: &Replayed) -> String {
+    let answer = replayed.outcome.answer;
+    match answer.number {
+        0 => format!("end {}\n", answer.count),
+        number => format!("stop {} {number} {}\n", answer.count, replayed.place),
+    }
+}
+
 /// The listing of a recording from power-up, as the replay program writes it.
 fn listing(recording: &[u8]) -> Vec<u8> {
     let (mut rdram, mut out) = (vec![0; RDRAM], vec![0; LISTING_BYTES]);
@@ -19,6 +28,7 @@ fn listing(recording: &[u8]) -> Vec<u8> {
     let state = ofersky::power_up();
     let replayed = ofersky::replay(state, recording, &mut rdram, &mut dmem, &mut imem, &mut out);
     out.truncate(replayed.written);
+    assert!(out.ends_with(last_line(&replayed).as_bytes()));
     out
 }
 

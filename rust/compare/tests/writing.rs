@@ -35,8 +35,8 @@ struct Edge {
     exact: u64,
     /// Records for which one byte is missing.
     short: u64,
-    /// Records refused by 5 or 6, though there was no room for them either.
-    refused_before: u64,
+    /// Records refused by 5, 6 and 10, though there was no room for them either.
+    refused_before: [u64; 3],
 }
 
 /// The comparison, and what was met in it.
@@ -88,7 +88,9 @@ impl Writer {
         let edge = &mut self.edges[usize::from(room < buffer)];
         edge.exact += u64::from(number == 0 && end == room);
         edge.short += u64::from(number == NO_ROOM && end == room + 1);
-        edge.refused_before += u64::from([5, 6].contains(&number) && end > room);
+        for (refused, address_number) in edge.refused_before.iter_mut().zip([5, 6, 10]) {
+            *refused += u64::from(number == address_number && end > room);
+        }
     }
 
     /// Records of each kind were written at least so often.
@@ -144,10 +146,14 @@ fn any_records() {
     }
     let totals = &writer.comparison.totals;
     totals.expect_numbers("write_record", &[0, 5, 6, 7, 14], 4_000);
+    totals.expect_numbers("write_record", &[10], 2_000);
+    totals.expect_misaligned("write_record", 1_000);
     writer.expect_kinds(2_000);
     for edge in writer.edges {
-        let least = edge.exact.min(edge.short).min(edge.refused_before);
+        let refused = edge.refused_before;
+        let least = edge.exact.min(edge.short).min(refused.iter().sum());
         assert!(least >= 100, "{edge:?}");
+        assert!(refused.iter().all(|seen| *seen >= 10), "{edge:?}");
     }
     done("any records", totals);
 }
@@ -169,7 +175,8 @@ fn places_kinds_and_addresses() {
     every_kind(&mut writer, &mut random);
     every_address(&mut writer, &mut random);
     let totals = &writer.comparison.totals;
-    totals.expect_numbers("write_record", &[0, 5, 6, 7, 14], 500);
+    totals.expect_numbers("write_record", &[0, 5, 6, 7, 10, 14], 500);
+    totals.expect_misaligned("write_record", 100);
     done("places, kinds and addresses", totals);
 }
 
@@ -188,7 +195,7 @@ fn places(buffer: usize) -> Vec<usize> {
 fn every_kind(writer: &mut Writer, random: &mut Random) {
     for kind in 0..=255 {
         for (length, place) in [(13, 0), (40, 9), (0, 0), (12, 12), (13, usize::MAX)] {
-            for address in [0, 0x0404_0000, 0x0400_1FF8, 0x0400_0004] {
+            for address in [0, 0x0404_0000, 0x0404_0002, 0x0400_1FF8, 0x0400_0004] {
                 let value = random.number();
                 let item = Record {
                     value,
@@ -295,6 +302,7 @@ fn replay(replays: &mut Comparison, recording: Vec<u8>, count: u32) {
     let (state, lent) = (ofersky::power_up(), Lent::new(4_096, 0));
     let out = LISTING_BYTES;
     let call = Call::Replay { recording, out };
-    let answer = replays.check(&Case { state, lent, call }).outcome.answer;
-    assert_eq!((answer.number, answer.count), (0, count));
+    let seen = replays.check(&Case { state, lent, call });
+    let answer = seen.outcome.answer;
+    assert_eq!((answer.number, answer.count, seen.place), (0, count, 0));
 }

@@ -11,6 +11,7 @@ use compare::records::pieces;
 use compare::seen::{model, Seen};
 use compare::states::sound;
 use compare::traffic::Traffic;
+use compare::values::not_register;
 use compare::watch::Watch;
 use ofersky::LISTING_BYTES;
 use std::panic::{catch_unwind, set_hook, take_hook, AssertUnwindSafe};
@@ -44,6 +45,24 @@ fn no_last_line_end(case: &Case) -> Seen {
     if seen.written > 0 && listing[seen.written - 1] == b'\n' {
         listing[seen.written - 1] = 0x5A;
         seen.written -= 1;
+    }
+    seen
+}
+
+/// The number of the refused record, and not the byte where it begins.
+fn place_counts_records(case: &Case) -> Seen {
+    let mut seen = model(case);
+    if seen.number() != 0 {
+        seen.place = seen.outcome.answer.count as usize;
+    }
+    seen
+}
+
+/// An address that is not a multiple of 4 refused as if it were one.
+fn misaligned_refused_by_5(case: &Case) -> Seen {
+    let mut seen = model(case);
+    if seen.number() == 10 {
+        seen.outcome.answer.number = 5;
     }
     seen
 }
@@ -106,6 +125,22 @@ fn recording(random: &mut Random) -> Case {
     Case { state, lent, call }
 }
 
+/// The same, with a record at the end that is refused.
+fn stopped_recording(random: &mut Random) -> Case {
+    let mut case = recording(random);
+    if let Call::Replay { recording, .. } = &mut case.call {
+        recording.extend([2, 4, 4, 0, 2, 0, 0, 0, 0]);
+    }
+    case
+}
+
+fn bad_read(random: &mut Random) -> Case {
+    let address = not_register(random);
+    let (state, lent) = (ofersky::power_up(), Lent::new(0, 0));
+    let call = Call::Read { address };
+    Case { state, lent, call }
+}
+
 fn dp_run(random: &mut Random) -> Case {
     let state = sound(random, 4_096);
     let lent = Lent::new(4_096, random.below(1_000) + 1);
@@ -143,8 +178,8 @@ fn shown_recording(report: &str) -> Vec<u8> {
     (0..hex.len() / 2).map(byte).collect()
 }
 
-/// The reports of these six, with the panic's own message kept off the screen.
-fn reports() -> [String; 6] {
+/// The reports of these eight, with the panic's own message kept off the screen.
+fn reports() -> [String; 8] {
     let hook = take_hook();
     set_hook(Box::new(|_| {}));
     let reports = [
@@ -154,6 +189,8 @@ fn reports() -> [String; 6] {
         reported(writes_before_it_declines, "call", sp_turn),
         reported(no_room_for_the_last_byte, "call", write_record),
         reported(clears_the_next_byte, "call", write_record),
+        reported(place_counts_records, "recording", stopped_recording),
+        reported(misaligned_refused_by_5, "call", bad_read),
     ];
     set_hook(hook);
     for report in &reports {
@@ -164,7 +201,7 @@ fn reports() -> [String; 6] {
 
 #[test]
 fn wrong_sides_are_found() {
-    let [skip, line_end, framing, declined, room, next_byte] = reports();
+    let [skip, line_end, framing, declined, room, next_byte, place, number] = reports();
 
     let shortest = shown_recording(&skip);
     assert!(skip.starts_with("difference at recording "));
@@ -188,4 +225,17 @@ fn wrong_sides_are_found() {
 
     assert!(next_byte.contains(", address 0x00000000, value 0x0, at place 0\nbuffer of "));
     assert!(next_byte.contains("; bytes that differ: 1\n"));
+
+    stop_is_found(&place);
+    assert!(number.contains("\n  number: expected 0xA by the model, given 0x5 by the library"));
+}
+
+/// The place is all that differs: where the second of two records begins.
+fn stop_is_found(report: &str) {
+    let shortest = pieces(&shown_recording(report));
+    assert_eq!(shortest.len(), 2, "one record before it suffices");
+    let place = shortest[1].start;
+    let differs =
+        format!("differs:\n  place: expected 0x{place:X} by the model, given 0x1 by the library\n");
+    assert!(report.ends_with(&differs));
 }

@@ -106,10 +106,12 @@ pub struct Reading {
     pub place: usize,
 }
 
-/// A replay's outcome, and how many bytes of its listing were written.
+/// A replay's outcome, the place where the refused record begins, which is 0 if
+/// there is none, and how many bytes of its listing were written.
 #[derive(Clone, Copy, Debug, Default, PartialEq, Eq)]
 pub struct Replayed {
     pub outcome: Outcome,
+    pub place: usize,
     pub written: usize,
 }
 
@@ -519,6 +521,7 @@ pub fn replay(
     };
     Replayed {
         outcome: Outcome { state, answer },
+        place: replay.place,
         written,
     }
 }

@@ -7,6 +7,8 @@ use std::ops::{Deref, DerefMut};
 
 /// The number for an address that is not one of the sixteen registers.
 pub const NOT_A_REGISTER: u32 = 5;
+/// The number for a register address that is not a multiple of 4.
+pub const NOT_ALIGNED: u32 = 10;
 
 pub const SP_SPADDR: u32 = 0x0404_0000;
 pub const SP_RAMADDR: u32 = 0x0404_0004;
@@ -44,6 +46,18 @@ pub const REGISTERS: [u32; 16] = [
     DP_PIPE_BUSY,
     DP_TMEM_BUSY,
 ];
+
+/// The number for an address that no register has: 10 for every one that is
+/// not a multiple of 4, in a block or far from both, and 5 for the rest.
+pub fn check_register(address: u32) -> Result<(), u32> {
+    if address % 4 != 0 {
+        return Err(NOT_ALIGNED);
+    }
+    if !REGISTERS.contains(&address) {
+        return Err(NOT_A_REGISTER);
+    }
+    Ok(())
+}
 
 /// Bytes in DMEM, and in IMEM.
 pub const BANK_BYTES: u32 = 4_096;
@@ -417,8 +431,9 @@ impl<M> Machine<M> {
         self.sp.is_sound() && self.dp.is_sound()
     }
 
-    /// Reads a register, or gives the number 5.
+    /// Reads a register, or gives the number 10 or 5.
     pub fn read(&mut self, address: u32) -> Result<u32, u32> {
+        check_register(address)?;
         Ok(match address {
             SP_SPADDR => self.sp.spaddr,
             SP_RAMADDR => self.sp.ramaddr,
@@ -435,13 +450,14 @@ impl<M> Machine<M> {
             DP_CMD_BUSY => self.dp.cmd_busy_counter,
             DP_PIPE_BUSY => self.dp.pipe_busy_counter,
             DP_TMEM_BUSY => self.dp.tmem_busy_counter,
-            _ => return Err(NOT_A_REGISTER),
+            _ => unreachable!("checked to be one of the sixteen"),
         })
     }
 
-    /// Writes a register, or gives the number 5. Writes to the registers that
-    /// can only be read succeed and do nothing.
+    /// Writes a register, or gives the number 10 or 5. Writes to the registers
+    /// that can only be read succeed and do nothing.
     pub fn write(&mut self, address: u32, value: u32) -> Result<(), u32> {
+        check_register(address)?;
         match address {
             SP_SPADDR => self.sp.spaddr_latch = value & SP_ADDRESS_BITS,
             SP_RAMADDR => self.sp.ramaddr_latch = value & ADDRESS_BITS,
@@ -454,7 +470,7 @@ impl<M> Machine<M> {
             DP_END => self.dp.write_end(value),
             DP_STATUS => self.dp.write_status(value),
             DP_CURRENT | DP_CLOCK | DP_CMD_BUSY | DP_PIPE_BUSY | DP_TMEM_BUSY => {}
-            _ => return Err(NOT_A_REGISTER),
+            _ => unreachable!("checked to be one of the sixteen"),
         }
         Ok(())
     }

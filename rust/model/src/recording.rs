@@ -1,7 +1,7 @@
 //! Recordings: their records, the writing and the replay of them, and the
 //! listing.
 
-use crate::machine::{load_word, store_word, Machine, BANK_BYTES, NOT_A_REGISTER, REGISTERS};
+use crate::machine::{check_register, load_word, store_word, Machine, BANK_BYTES};
 use std::ops::{Deref, DerefMut};
 
 /// The number for a memory record whose address is not allowed.
@@ -49,6 +49,9 @@ pub struct Replay {
     pub number: u32,
     /// The records that were done.
     pub count: u32,
+    /// Where in the recording the refused record begins. It is 0 if there is
+    /// none: in a replay that ends, or is refused before its first record.
+    pub place: usize,
     pub listing: String,
 }
 
@@ -116,13 +119,7 @@ impl Record {
     /// The number for an address that this record must not have.
     pub fn check_address(&self) -> Result<(), u32> {
         match *self {
-            Record::Write { address, .. } | Record::Read { address, .. } => {
-                if REGISTERS.contains(&address) {
-                    Ok(())
-                } else {
-                    Err(NOT_A_REGISTER)
-                }
-            }
+            Record::Write { address, .. } | Record::Read { address, .. } => check_register(address),
             Record::Store { address, .. } | Record::Check { address, .. } => {
                 place_of(address).map(|_| ())
             }
@@ -284,11 +281,11 @@ where
 const HEADER: &str = "replay 1\n";
 
 /// The listing's last line.
-fn last_line(number: u32, count: u32) -> String {
+fn last_line(number: u32, count: u32, place: usize) -> String {
     if number == 0 {
         format!("end {count}\n")
     } else {
-        format!("stop {count} {number}\n")
+        format!("stop {count} {number} {place}\n")
     }
 }
 
@@ -297,7 +294,8 @@ pub fn refused(number: u32) -> Replay {
     Replay {
         number,
         count: 0,
-        listing: HEADER.to_string() + &last_line(number, 0),
+        place: 0,
+        listing: HEADER.to_string() + &last_line(number, 0, 0),
     }
 }
 
@@ -313,6 +311,7 @@ where
     let mut listing = HEADER.to_string();
     let mut number = 0;
     let mut count = 0;
+    let mut place = 0;
     let mut rest = recording;
     while number == 0 && !rest.is_empty() {
         match step(machine, rest, &mut listing) {
@@ -320,13 +319,17 @@ where
                 rest = &rest[length..];
                 count += 1;
             }
-            Err(refusal) => number = refusal,
+            Err(refusal) => {
+                number = refusal;
+                place = recording.len() - rest.len();
+            }
         }
     }
-    listing += &last_line(number, count);
+    listing += &last_line(number, count, place);
     Replay {
         number,
         count,
+        place,
         listing,
     }
 }

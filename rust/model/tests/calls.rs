@@ -421,11 +421,40 @@ fn refusals_come_in_the_order_of_the_table() {
     }
 }
 
-/// 4 comes before 5, and 5 is given for all but the sixteen addresses.
-#[test]
-fn refusal_5_has_its_edges() {
-    let mut unsound = running();
+/// The register calls give this number for an address, and 4 before it.
+fn expect_address(address: u32, number: u32) {
+    let state = running();
+    let read = read_register(&state, address);
+    let write = write_register(&state, address, 0);
+    assert_eq!(read.answer.number, number, "{address:08X}");
+    assert_eq!(write.answer.number, number, "{address:08X}");
+    if number != 0 {
+        let declined = declined(&state, number);
+        assert_eq!((read, write), (declined, declined));
+    }
+    let mut unsound = state;
     unsound.sp.count = 256;
+    let declined = declined(&unsound, 4);
+    assert_eq!(read_register(&unsound, address), declined);
+    assert_eq!(write_register(&unsound, address, 0), declined);
+}
+
+#[test]
+fn refusal_10_is_for_each_misaligned_address_and_5_for_the_rest() {
+    for address in MISALIGNED {
+        expect_address(address, 10);
+    }
+    for address in OUTSIDE {
+        expect_address(address, 5);
+    }
+    for address in REGISTERS {
+        expect_address(address, 0);
+    }
+}
+
+/// Every address near an edge, by its last bits.
+#[test]
+fn refusals_10_and_5_have_their_edges() {
     let bases = [
         0,
         0x0403_FFF0,
@@ -434,24 +463,13 @@ fn refusal_5_has_its_edges() {
         0x0410_0010,
         u32::MAX - 16,
     ];
-    for address in bases
-        .iter()
-        .flat_map(|base| *base..=base + 16)
-        .chain(REGISTERS)
-    {
-        let number = if REGISTERS.contains(&address) { 0 } else { 5 };
-        let state = running();
-        let read = read_register(&state, address);
-        let write = write_register(&state, address, 0);
-        assert_eq!(read.answer.number, number, "{address:08X}");
-        assert_eq!(write.answer.number, number, "{address:08X}");
-        if number == 5 {
-            let declined = declined(&state, 5);
-            assert_eq!((read, write), (declined, declined));
-        }
-        let declined = declined(&unsound, 4);
-        assert_eq!(read_register(&unsound, address), declined);
-        assert_eq!(write_register(&unsound, address, 0), declined);
+    for address in bases.iter().flat_map(|base| *base..=base + 16) {
+        let number = match address % 4 {
+            0 if REGISTERS.contains(&address) => 0,
+            0 => 5,
+            _ => 10,
+        };
+        expect_address(address, number);
     }
 }
 

@@ -277,7 +277,7 @@ fn a_difference_is_a_line_and_no_refusal() {
 }
 
 #[test]
-fn refusal_5_has_its_edges() {
+fn refusals_10_and_5_have_their_edges() {
     let allowed = |address: u32| {
         (0x0404_0000..=0x0404_001C).contains(&address)
             || (0x0410_0000..=0x0410_001C).contains(&address)
@@ -293,8 +293,11 @@ fn refusal_5_has_its_edges() {
             let Some(address) = u32::checked_add(base, ahead) else {
                 continue;
             };
-            let good = allowed(address) && address % 4 == 0;
-            let last = if good { "end 2\n" } else { "stop 1 5\n" };
+            let last = match (address % 4, allowed(address)) {
+                (0, true) => "end 2\n",
+                (0, false) => "stop 1 5 1\n",
+                _ => "stop 1 10 1\n",
+            };
             let write = Record::Write { address, value: 0 };
             let read = Record::Read {
                 address,
@@ -336,7 +339,7 @@ fn refusal_6_has_its_edges() {
         0x0404_0000,
         0xFFFF_FFF8,
     ];
-    for (addresses, last) in [(&allowed[..], "end 2\n"), (&refused[..], "stop 1 6\n")] {
+    for (addresses, last) in [(&allowed[..], "end 2\n"), (&refused[..], "stop 1 6 1\n")] {
         for address in addresses.iter().copied() {
             let check = Record::Check {
                 address,
@@ -397,11 +400,11 @@ fn refusal_7_is_for_each_unknown_kind() {
     for kind in 0..=255 {
         let mut recording = vec![6, kind];
         recording.extend([0; 12]);
-        let refused = listing(&recording) == "replay 1\nstop 1 7\n";
+        let refused = listing(&recording) == "replay 1\nstop 1 7 1\n";
         assert_eq!(refused, !(1..=9).contains(&kind), "{kind}");
         // An unknown kind has no body that could be cut short.
         recording.truncate(2);
-        let refused = listing(&recording) == "replay 1\nstop 1 7\n";
+        let refused = listing(&recording) == "replay 1\nstop 1 7 1\n";
         assert_eq!(refused, !(1..=9).contains(&kind), "{kind}");
     }
 }
@@ -412,25 +415,29 @@ fn refusal_8_comes_one_byte_before_the_whole() {
     for (kind, body) in bodies {
         for length in 0..body {
             let mut recording = vec![6, 7, kind];
-            // The address is neither a register nor allowed: 8 comes first.
+            // The address is misaligned and not allowed: 8 comes first.
             recording.extend(vec![0xFF; length]);
-            assert_eq!(listing(&recording), "replay 1\nstop 2 8\n", "{kind}");
+            assert_eq!(listing(&recording), "replay 1\nstop 2 8 2\n", "{kind}");
         }
     }
-    let whole = [&[6, 7, 1][..], &[0xFF; 8]].concat();
-    assert_eq!(listing(&whole), "replay 1\nstop 2 5\n");
+    let wholes = [(1, 0xFF, 10), (2, 0xFF, 10), (1, 0xFC, 5), (2, 0xFC, 5)];
+    for (kind, byte, number) in wholes {
+        let whole = [&[6, 7, kind][..], &[byte; 8]].concat();
+        assert_eq!(listing(&whole), format!("replay 1\nstop 2 {number} 2\n"));
+    }
     let whole = [&[6, 7, 9][..], &[0xFF; 12]].concat();
-    assert_eq!(listing(&whole), "replay 1\nstop 2 6\n");
+    assert_eq!(listing(&whole), "replay 1\nstop 2 6 2\n");
 }
 
 #[test]
 fn refusal_9_comes_before_all_else() {
     assert_eq!(listing(&[6; 16_383]), "replay 1\nend 16383\n");
-    assert_eq!(listing(&[6; 16_384]), "replay 1\nstop 0 9\n");
-    assert_eq!(listing(&[0; 16_383]), "replay 1\nstop 0 7\n");
-    assert_eq!(listing(&[0; 16_384]), "replay 1\nstop 0 9\n");
+    assert_eq!(listing(&[6; 16_384]), "replay 1\nstop 0 9 0\n");
+    assert_eq!(listing(&[0; 16_383]), "replay 1\nstop 0 7 0\n");
+    assert_eq!(listing(&[0; 16_384]), "replay 1\nstop 0 9 0\n");
     let mut machine = power_up();
-    replay(&mut machine, &[6; 16_384]);
+    let outcome = replay(&mut machine, &[6; 16_384]);
+    assert_eq!((outcome.number, outcome.count, outcome.place), (9, 0, 0));
     assert!(machine == power_up());
 }
 
@@ -440,9 +447,19 @@ fn what_stood_before_a_refusal_stays_done() {
     recording.extend([6, 0]);
     let mut machine = power_up();
     let outcome = replay(&mut machine, &recording);
-    assert_eq!((outcome.number, outcome.count), (7, 5));
-    assert!(outcome.listing.ends_with("\nstop 5 7\n"));
+    assert_eq!((outcome.number, outcome.count, outcome.place), (7, 5, 33));
+    assert!(outcome.listing.ends_with("\nstop 5 7 33\n"));
     assert!(machine.sp.broke);
+    let output = run_program(env!("CARGO_BIN_EXE_model_replay"), &[], &recording);
+    assert_eq!(output, outcome.listing.as_bytes());
+}
+
+#[test]
+fn a_replay_that_ends_gives_no_place() {
+    for recording in [&[][..], &[6, 7], &WHOLE_CASE] {
+        let outcome = replay(&mut power_up(), recording);
+        assert_eq!((outcome.number, outcome.place), (0, 0));
+    }
 }
 
 /// Generated recordings are whole, within their length, and have both kinds

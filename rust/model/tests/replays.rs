@@ -126,13 +126,18 @@ fn an_unknown_kind_comes_before_a_record_cut_short() {
 
 #[test]
 fn a_record_cut_short_comes_before_its_address() {
-    for (kind, body, whole) in [(1, 8, 5), (2, 8, 5), (8, 12, 6), (9, 12, 6)] {
-        let mut recording = vec![kind];
-        for _ in 0..body {
-            assert_eq!(read_record(&recording, 0), refusal(8), "{kind}");
-            recording.push(0xFF);
+    let kinds = [(1, 8), (2, 8), (8, 12), (9, 12)];
+    // Of these two bytes an address is misaligned, or a multiple of 4 only.
+    for (byte, of_registers) in [(0xFF, 10), (0xFC, 5)] {
+        for (kind, body) in kinds {
+            let mut recording = vec![kind];
+            for _ in 0..body {
+                assert_eq!(read_record(&recording, 0), refusal(8), "{kind}");
+                recording.push(byte);
+            }
+            let whole = if body == 8 { of_registers } else { 6 };
+            assert_eq!(read_record(&recording, 0), refusal(whole), "{kind}");
         }
-        assert_eq!(read_record(&recording, 0), refusal(whole), "{kind}");
     }
     for kind in [3, 4, 5] {
         let mut recording = vec![kind];
@@ -146,22 +151,16 @@ fn a_record_cut_short_comes_before_its_address() {
 
 #[test]
 fn the_reader_refuses_addresses_of_registers() {
-    let refused = [
-        0,
-        0x0403_FFFC,
-        0x0404_0001,
-        0x0404_0020,
-        0x040F_FFFC,
-        0x0410_0002,
-        0x0410_0020,
-        0xFFFF_FFFF,
-    ];
     for kind in [1, 2] {
         for address in REGISTERS {
             let bytes = record(kind, address, &[0; 4]);
             assert_eq!(read_record(&bytes, 0), reading(kind, address, 0, 9));
         }
-        for address in refused {
+        for address in MISALIGNED {
+            let bytes = record(kind, address, &[0; 4]);
+            assert_eq!(read_record(&bytes, 0), refusal(10), "{address:08X}");
+        }
+        for address in OUTSIDE {
             let bytes = record(kind, address, &[0; 4]);
             assert_eq!(read_record(&bytes, 0), refusal(5), "{address:08X}");
         }
@@ -204,11 +203,10 @@ fn the_reader_refuses_addresses_of_memory() {
 #[test]
 fn the_whole_case_replays() {
     let mut bench = Bench::new();
-    let (outcome, listing) = bench.replay(&WHOLE_CASE);
+    let (state, listing) = bench.replay_to_end(&WHOLE_CASE, 4);
     assert_eq!(listing, WHOLE_LISTING);
-    assert_eq!(outcome.answer, success(0, 4));
-    assert_eq!(outcome.state.sp.spaddr, 0x1008);
-    assert_eq!(bench.replay(&[]).1, "replay 1\nend 0\n");
+    assert_eq!(state.sp.spaddr, 0x1008);
+    assert_eq!(bench.replay_to_end(&[], 0).1, "replay 1\nend 0\n");
 }
 
 /// As much of the listing as has room is written, and no byte after it.
@@ -226,10 +224,12 @@ fn the_listing_takes_the_room_there_is() {
         assert!(out[fits..].iter().all(|byte| *byte == 0x55));
         // The records are done all the same.
         assert_eq!(replayed.outcome.answer, success(0, 4));
+        assert_eq!(replayed.place, 0);
     }
 }
 
-/// A recording of a BREAK, a store to each memory and one bad record.
+/// A recording of a BREAK, a store to each memory and one bad record, which
+/// begins at byte 1 + 3 * 13.
 fn with_bad_record(bad: &[u8]) -> Vec<u8> {
     let word = [1, 2, 3, 4, 5, 6, 7, 8];
     [
@@ -242,18 +242,23 @@ fn with_bad_record(bad: &[u8]) -> Vec<u8> {
     .concat()
 }
 
-/// What stood before the declined record stays done, and the count is the
-/// number of those records.
+/// What stood before the declined record stays done, the count is the number
+/// of those records, and the place is that of the declined one.
 #[test]
 fn a_replay_stops_at_the_declined_record() {
     let bads = [
         (record(1, 0x0404_0020, &[0; 4]), 5),
         (record(2, 0, &[0; 4]), 5),
+        (record(1, 0x0404_0001, &[0; 4]), 10),
+        (record(2, 0x0410_001E, &[0; 4]), 10),
+        (record(2, 0xFFFF_FFFF, &[0; 4]), 10),
         (record(8, 0x03F0_0000, &[0; 8]), 6),
         (record(9, 4, &[0; 8]), 6),
+        (record(9, 1, &[0; 8]), 6),
         (vec![0], 7),
         (vec![10, 6, 6], 7),
         (vec![5, 0, 0, 0], 8),
+        (vec![1, 0xFF, 0xFF, 0xFF, 0xFF, 0, 0, 0], 8),
     ];
     for (bad, number) in bads {
         let mut bench = Bench::running();
@@ -263,13 +268,58 @@ fn a_replay_stops_at_the_declined_record() {
         expected.rdram[0x10..0x18].copy_from_slice(&word);
         expected.dmem[0xFF8..].copy_from_slice(&word);
         expected.imem[..8].copy_from_slice(&word);
-        let (outcome, listing) = bench.replay(&with_bad_record(&bad));
-        bench.state = outcome.state;
+        let (replayed, listing) = bench.replay(&with_bad_record(&bad));
+        bench.state = replayed.outcome.state;
         assert!(bench == expected);
-        let answer = outcome.answer;
+        let answer = replayed.outcome.answer;
         assert_eq!((answer.number, answer.value, answer.count), (number, 0, 4));
-        assert_eq!(listing, format!("replay 1\nstop 4 {number}\n"));
+        assert_eq!(replayed.place, 40);
+        assert_eq!(listing, format!("replay 1\nstop 4 {number} 40\n"));
     }
+}
+
+/// Expects a replay to stop at its first unknown kind, after `count` records.
+fn expect_stop_by_7(recording: &[u8], count: u32, place: usize) {
+    let (replayed, listing) = Bench::new().replay(recording);
+    let answer = replayed.outcome.answer;
+    assert_eq!((answer.number, answer.value, answer.count), (7, 0, count));
+    assert_eq!(replayed.place, place);
+    assert!(listing.ends_with(&format!("\nstop {count} 7 {place}\n")));
+}
+
+/// Records of every length before the refused one, and records after it.
+#[test]
+fn the_place_is_where_the_declined_record_begins() {
+    let kinds = [
+        record(1, 0x0404_0000, &[0; 4]),
+        record(2, 0x0410_0000, &[0; 4]),
+        vec![3, 0, 0, 0, 1],
+        vec![4, 0, 0, 0, 1],
+        vec![5, 0, 0, 0, 1],
+        vec![6],
+        vec![7],
+        record(8, 0, &[0; 8]),
+        record(9, 0, &[0; 8]),
+    ];
+    let places = [0, 9, 18, 23, 28, 33, 34, 35, 48, 61];
+    for (before, place) in places.into_iter().enumerate() {
+        let mut recording = kinds[..before].concat();
+        recording.push(0);
+        expect_stop_by_7(&recording, before as u32, place);
+        // What stands after it is not looked at.
+        recording.extend([6, 0, 6]);
+        expect_stop_by_7(&recording, before as u32, place);
+    }
+}
+
+#[test]
+fn the_last_byte_of_the_longest_recording_has_a_place() {
+    let mut recording = [6; 16_383];
+    recording[16_382] = 0;
+    expect_stop_by_7(&recording, 16_382, 16_382);
+    // 1,260 records of 13 bytes, and one more byte.
+    let checks = record(9, 0, &[0; 8]).repeat(1_260);
+    expect_stop_by_7(&[&checks[..], &[10]].concat(), 1_260, 16_380);
 }
 
 /// The header and the stop line are written though nothing is done.
@@ -283,6 +333,7 @@ fn a_replay_that_is_declined_at_once_still_has_a_listing() {
         expect_replay(&bench, &WHOLE_CASE, number);
         expect_replay(&bench, &[], number);
         expect_replay(&bench, &[0], number);
+        expect_replay(&bench, &record(1, 0x0404_0001, &[0; 4]), number);
         expect_replay(&bench, &[0; 16_384], 9);
     };
     declines(|bench| bench.rdram.push(0), 1);
@@ -305,8 +356,7 @@ fn a_store_past_the_lent_length_is_dropped() {
         record(9, 0x10, &[0x11; 8]),
     ]
     .concat();
-    let (outcome, listing) = bench.replay(&recording);
-    assert_eq!(outcome.answer, success(0, 4));
+    let (_, listing) = bench.replay_to_end(&recording, 4);
     let found = "L 00000008 1111111111111111 ok\n\
         L 00000010 0000000000000000 expected 1111111111111111\n";
     assert_eq!(listing, format!("replay 1\n{found}end 4\n"));
@@ -319,11 +369,10 @@ fn each_dp_run_has_its_own_output() {
     let mut bench = Bench::new();
     bench.state.dp.limit = 8 * 600;
     let run = [4, 0xFF, 0xFF, 0xFF, 0xFF];
-    let (outcome, listing) = bench.replay(&[run; 4].concat());
+    let (state, listing) = bench.replay_to_end(&[run; 4].concat(), 4);
     let lines = "D 00000100\nD 00000100\nD 00000058\nD 00000000\n";
     assert_eq!(listing, format!("replay 1\n{lines}end 4\n"));
-    assert_eq!(outcome.answer, success(0, 4));
-    assert_eq!(outcome.state.dp.current, 8 * 600);
+    assert_eq!(state.dp.current, 8 * 600);
 }
 
 /// The line of a read or a check, by the paper's form.
@@ -390,8 +439,8 @@ fn a_replay_is_its_records() {
         let mut whole = Bench::new();
         whole.rdram = vec![0; 32_768];
         let mut single = whole.clone();
-        let (outcome, listing) = whole.replay(&recording);
-        whole.state = outcome.state;
+        let (replayed, listing) = whole.replay(&recording);
+        whole.state = replayed.outcome.state;
         let mut expected = String::from("replay 1\n");
         let (mut place, mut count) = (0, 0);
         while place < recording.len() {
@@ -402,7 +451,8 @@ fn a_replay_is_its_records() {
             expected += &by_single_calls(&mut single, reading);
         }
         assert_eq!(listing, expected + &format!("end {count}\n"));
-        assert_eq!(outcome.answer, success(0, count));
+        assert_eq!(replayed.outcome.answer, success(0, count));
+        assert_eq!(replayed.place, 0);
         assert!(whole == single);
     }
 }

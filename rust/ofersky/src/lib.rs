@@ -129,16 +129,18 @@ pub struct Reading {
     pub number: u32,
 }
 
-/// What a replay gives: the state, number and count, and how many bytes of the listing were written.
+/// What a replay gives: the state, number and count, how many bytes of the listing were written, and where it stopped.
 #[repr(C)]
 #[derive(Clone, Copy, Debug, Default, PartialEq, Eq)]
 pub struct Replayed {
     pub outcome: Outcome,
     pub written: usize,
+    /// The byte of the recording where the refused record begins. It is 0 where no record was refused: after success, and for 9, 1, 2, 3, 4.
+    pub place: usize,
 }
 
 /// As many bytes always suffice for the listing of a replay.
-pub const LISTING_BYTES: usize = 69_198;
+pub const LISTING_BYTES: usize = 69_204;
 
 /// Every register and flag zero.
 pub fn power_up() -> State {
@@ -150,12 +152,20 @@ pub fn is_sound(state: State) -> bool {
     unsafe { raw::ofersky_is_sound(state) }
 }
 
-/// Reads a register. Refusals: 4, 5.
+/// Reads a register. Refusals: 4, 10, 5.
 pub fn read_register(state: State, address: u32) -> Outcome {
     unsafe { raw::ofersky_read_register(state, address) }
 }
 
-/// Writes a register. Refusals: 4, 5.
+/// Writes a register. Refusals: 4, 10, 5.
+///
+/// ```
+/// let refusal = |address| ofersky::write_register(ofersky::power_up(), address, 0).answer.number;
+/// assert_eq!(refusal(0x0404_001C), 0);
+/// // Not a multiple of 4, and a multiple of 4 that is no register's address.
+/// assert_eq!(refusal(0x0404_001E), 10);
+/// assert_eq!(refusal(0x0404_0020), 5);
+/// ```
 pub fn write_register(state: State, address: u32, value: u32) -> Outcome {
     unsafe { raw::ofersky_write_register(state, address, value) }
 }
@@ -219,15 +229,16 @@ pub fn next_word<'a>(state: State, rdram: &'a [u8], dmem: &'a [u8]) -> &'a [u8] 
     &memory[part.offset as usize..][..part.length as usize]
 }
 
-/// The record at a place of a recording, and the place after it. Refusals: 9, 7, 8, 5, 6.
+/// The record at a place of a recording, and the place after it. Refusals: 9, 7, 8, and then
+/// 10 and 5 for a register's address, 6 for one of memory.
 pub fn read_record(recording: &[u8], place: usize) -> Reading {
     let r = shared(recording);
     unsafe { raw::ofersky_read_record(r.0, r.1, place) }
 }
 
 /// Appends a record to a buffer from a place on; the value is the place after it, and no other byte changes.
-/// Of kinds 1 to 5 only the lower half of the value is written. Refusals: 7, 5, 6, and then 14, where the record
-/// would end past the buffer or past 16,383 bytes.
+/// Of kinds 1 to 5 only the lower half of the value is written. Refusals: 7; 10, 5 or 6 as in reading; and then 14,
+/// where the record would end past the buffer or past 16,383 bytes.
 ///
 /// ```
 /// use ofersky::{read_record, write_record, Record};
@@ -248,7 +259,20 @@ pub fn write_record(item: Record, buffer: &mut [u8], place: usize) -> Answer {
     unsafe { raw::ofersky_write_record(item, b.0, b.1, place) }
 }
 
-/// Replays a recording and writes its listing to `out`. Refusals: 9, 1, 2, 3, 4, and those of its records: 7, 8, 5, 6.
+/// Replays a recording and writes its listing to `out`. It stops at a record that is refused, and what the records before
+/// it did stays done. Refusals: 9, 1, 2, 3, 4, and those of its records: 7, 8, 10, 5, 6.
+///
+/// ```
+/// let (mut rdram, mut dmem, mut imem) = ([0; 64], [0; 4096], [0; 4096]);
+/// let mut out = vec![0; ofersky::LISTING_BYTES];
+/// // A tick, then a read of an address that is not a multiple of 4; it begins at byte 5.
+/// let recording = [5, 0, 0, 0, 1, 2, 4, 4, 0, 2, 0, 0, 0, 0];
+/// let state = ofersky::power_up();
+/// let done = ofersky::replay(state, &recording, &mut rdram, &mut dmem, &mut imem, &mut out);
+/// let answer = done.outcome.answer;
+/// assert_eq!((answer.count, answer.number, done.place), (1, 10, 5));
+/// assert_eq!(&out[..done.written], b"replay 1\nstop 1 10 5\n");
+/// ```
 pub fn replay(
     state: State,
     recording: &[u8],

@@ -5,44 +5,31 @@ use Rattle.console.proofs.Listings.{input-given}
 use borrow.Author.Needs.{needs}
 use Rattle.console.proofs.listing_from.Statement.{statement}
 use Rattle.console.proofs.listing_from.Tie as tie
-use Rattle.console.proofs.listing_from.Reads as reads
-use Rattle.console.proofs.listing_from.Lts as lts
-use Rattle.console.proofs.whole_listing.Reads as whole-listing-reads
-use Rattle.io.proofs.read_full.Reads as read-full-reads
 
--- src/lib.rt:38:31
 slice-aggregate-read-full : tie.Need-slice-aggregate-read-full
 slice-aggregate-read-full c = search needs
 
--- src/lib.rt:38:9
 read-full-requires : tie.Need-read-full-requires
 read-full-requires c κs = search needs
 
--- src/lib.rt:39:19
 array-share-prefix-input : tie.Need-array-share-prefix-input
 array-share-prefix-input c = search needs
 
--- src/lib.rt:39:19
 slice-aggregate-whole-listing : tie.Need-slice-aggregate-whole-listing
 slice-aggregate-whole-listing c = search needs
 
--- src/lib.rt:39:5
 whole-listing-requires : tie.Need-whole-listing-requires
 whole-listing-requires c κs = search needs
 
--- src/lib.rt:25:1
 same-length : tie.Need-same-length
 same-length c = search needs
 
--- src/lib.rt:25:1
 same-length-2 : tie.Need-same-length-2
 same-length-2 c = search needs
 
--- src/lib.rt:25:1
 same-length-3 : tie.Need-same-length-3
 same-length-3 c = search needs
 
--- src/lib.rt:25:1
 returns : tie.Need-returns
 returns c =
     let r = c .before .before .before .before .before .before .before .before .before .before .before .before .before .read-full in

@@ -6,32 +6,22 @@ use Rattle.console.proofs.Listings.{listing-given}
 use borrow.Author.Needs.{needs}
 use Rattle.console.proofs.whole_listing.Statement.{statement}
 use Rattle.console.proofs.whole_listing.Tie as tie
-use Rattle.console.proofs.whole_listing.Reads as reads
-use Rattle.console.proofs.whole_listing.Lts as lts
-use Rattle.checks.proofs.power_up.Reads as power-up-reads
-use Rattle.player.proofs.replay.Reads as replay-reads
 
--- src/lib.rt:18:23
 power-up-requires : tie.Need-power-up-requires
 power-up-requires c κs = search needs
 
--- src/lib.rt:18:9
 replay-requires : tie.Need-replay-requires
 replay-requires c κs = search needs
 
--- src/lib.rt:8:1
 same-length : tie.Need-same-length
 same-length c = search needs
 
--- src/lib.rt:8:1
 same-length-2 : tie.Need-same-length-2
 same-length-2 c = search needs
 
--- src/lib.rt:8:1
 same-length-3 : tie.Need-same-length-3
 same-length-3 c = search needs
 
--- src/lib.rt:8:1
 returns : tie.Need-returns
 returns c =
     let room : longestListing ≤ length (now (c .before .before .before .before .before .before .before .before .before .before .before .before .before .before .before .before .args .out)) = search needs in

@@ -7,6 +7,53 @@ use model::calls::*;
 /// Bytes of DMEM, and of IMEM.
 pub const BANK: usize = 4_096;
 
+/// Addresses that are not multiples of 4: in the SP block, in the DP block,
+/// just outside them and far away. A register call gives 10 for each.
+pub const MISALIGNED: [u32; 24] = [
+    0x0404_0001,
+    0x0404_0002,
+    0x0404_0003,
+    0x0404_0006,
+    0x0404_001D,
+    0x0404_001F,
+    0x0410_0001,
+    0x0410_0002,
+    0x0410_000E,
+    0x0410_001E,
+    0x0410_001F,
+    0x0403_FFFE,
+    0x0403_FFFF,
+    0x0404_0021,
+    0x0404_0022,
+    0x040F_FFFF,
+    0x0410_0021,
+    0x0410_0023,
+    0x0000_0001,
+    0x0000_0002,
+    0x0000_0007,
+    0x0400_0001,
+    0xFFFF_FFFE,
+    0xFFFF_FFFF,
+];
+
+/// Multiples of 4 outside both blocks. A register call gives 5 for each.
+pub const OUTSIDE: [u32; 14] = [
+    0x0000_0000,
+    0x0000_0004,
+    0x0000_0008,
+    0x0400_0000,
+    0x0403_FFFC,
+    0x0404_0020,
+    0x0404_0024,
+    0x040F_FFFC,
+    0x0410_0020,
+    0x0410_0024,
+    0x0414_0000,
+    0x1404_0000,
+    0x8410_0004,
+    0xFFFF_FFFC,
+];
+
 /// A state and memories of its own, which the calls are lent.
 #[derive(Clone, PartialEq)]
 pub struct Bench {
@@ -109,14 +156,23 @@ impl Bench {
     }
 
     /// A replay with its listing. The state is not gone on with.
-    pub fn replay(&mut self, recording: &[u8]) -> (Outcome, String) {
+    pub fn replay(&mut self, recording: &[u8]) -> (Replayed, String) {
         let mut out = vec![0x55; 70_000];
         let (rdram, dmem, imem) = (&mut self.rdram, &mut self.dmem, &mut self.imem);
         let replayed = replay(&self.state, recording, rdram, dmem, imem, &mut out);
         assert!(out[replayed.written..].iter().all(|byte| *byte == 0x55));
         out.truncate(replayed.written);
         let listing = String::from_utf8(out).expect("a text");
-        (replayed.outcome, listing)
+        (replayed, listing)
+    }
+
+    /// A replay that does all its records, so that there is no refused one
+    /// whose place could be given.
+    pub fn replay_to_end(&mut self, recording: &[u8], count: u32) -> (State, String) {
+        let (replayed, listing) = self.replay(recording);
+        assert_eq!(replayed.outcome.answer, success(0, count));
+        assert_eq!(replayed.place, 0);
+        (replayed.outcome.state, listing)
     }
 }
 
@@ -297,11 +353,12 @@ pub fn expect_register_calls(state: &State, number: u32) {
     }
 }
 
-/// A replay that is declined before its first record.
+/// A replay that is declined before its first record, or at it.
 pub fn expect_replay(bench: &Bench, recording: &[u8], number: u32) {
     let mut tried = bench.clone();
-    let (outcome, listing) = tried.replay(recording);
-    assert_eq!(outcome, declined(&bench.state, number));
-    assert_eq!(listing, format!("replay 1\nstop 0 {number}\n"));
+    let (replayed, listing) = tried.replay(recording);
+    assert_eq!(replayed.outcome, declined(&bench.state, number));
+    assert_eq!(replayed.place, 0);
+    assert_eq!(listing, format!("replay 1\nstop 0 {number} 0\n"));
     assert!(tried == *bench);
 }

@@ -3,45 +3,31 @@ use Rattle.listing.proofs.Putting.{_then_}
 use borrow.Author.Needs.{needs}
 use Rattle.lines.proofs.digits.put_decimal.Statement.{statement}
 use Rattle.lines.proofs.digits.put_decimal.Tie as tie
-use Rattle.lines.proofs.digits.put_decimal.Reads as reads
-use Rattle.lines.proofs.digits.put_decimal.Lts as lts
-use Rattle.lines.proofs.digits.decimal_digit.Reads as decimal-digit-reads
-use Rattle.lines.proofs.digits.put_leading.Reads as put-leading-reads
-use Rattle.lines.proofs.text.put.Reads as put-reads
 
--- src/digits.rt:67:9
 put-leading-requires : tie.Need-put-leading-requires
 put-leading-requires c κs = search needs
 
--- src/digits.rt:68:9
 put-leading-requires-2 : tie.Need-put-leading-requires-2
 put-leading-requires-2 c κs = search needs
 
--- src/digits.rt:69:9
 put-leading-requires-3 : tie.Need-put-leading-requires-3
 put-leading-requires-3 c κs = search needs
 
--- src/digits.rt:70:9
 put-leading-requires-4 : tie.Need-put-leading-requires-4
 put-leading-requires-4 c κs = search needs
 
--- src/digits.rt:71:17
 decimal-digit-requires : tie.Need-decimal-digit-requires
 decimal-digit-requires c κs = search needs
 
--- src/digits.rt:72:18
 slice-aggregate-put : tie.Need-slice-aggregate-put
 slice-aggregate-put c = search needs
 
--- src/digits.rt:72:5
 put-requires : tie.Need-put-requires
 put-requires c κs = search needs
 
--- src/digits.rt:64:1
 same-length : tie.Need-same-length
 same-length c = search needs
 
--- src/digits.rt:64:1
 returns : tie.Need-returns
 unfolding decimal
 returns c =

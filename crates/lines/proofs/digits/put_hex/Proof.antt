@@ -3,23 +3,16 @@ use Rattle.listing.proofs.Putting.{_then_}
 use borrow.Author.Needs.{needs}
 use Rattle.lines.proofs.digits.put_hex.Statement.{statement}
 use Rattle.lines.proofs.digits.put_hex.Tie as tie
-use Rattle.lines.proofs.digits.put_hex.Reads as reads
-use Rattle.lines.proofs.digits.put_hex.Lts as lts
-use Rattle.lines.proofs.digits.put_hex8.Reads as put-hex8-reads
 
--- src/digits.rt:46:13
 put-hex8-requires : tie.Need-put-hex8-requires
 put-hex8-requires c κs = search needs
 
--- src/digits.rt:47:9
 put-hex8-requires-2 : tie.Need-put-hex8-requires-2
 put-hex8-requires-2 c κs = search needs
 
--- src/digits.rt:47:9
 same-length : tie.Need-same-length
 same-length c = search needs
 
--- src/digits.rt:47:9
 returns : tie.Need-returns
 unfolding hex
 returns c =
@@ -27,15 +20,12 @@ returns c =
     let high = low .before .before .before .before in
     simp (high .before .before .if1 .taken) (high .put-hex8 .ensures then low .put-hex82 .ensures)
 
--- src/digits.rt:49:5
 put-hex8-requires-3 : tie.Need-put-hex8-requires-3
 put-hex8-requires-3 c κs = search needs
 
--- src/digits.rt:42:1
 same-length-2 : tie.Need-same-length-2
 same-length-2 c = search needs
 
--- src/digits.rt:42:1
 returns-2 : tie.Need-returns-2
 unfolding hex
 returns-2 c = simp (c .before .before .before .before .if1 .left) (c .before .before .put-hex83 .ensures)

@@ -1,56 +1,40 @@
 use borrow.Author.Needs.{needs}
 use Rattle.lines.proofs.digits.put_hex8.Statement.{statement}
 use Rattle.lines.proofs.digits.put_hex8.Tie as tie
-use Rattle.lines.proofs.digits.put_hex8.Reads as reads
-use Rattle.lines.proofs.digits.put_hex8.Lts as lts
-use Rattle.lines.proofs.digits.hex_digit.Reads as hex-digit-reads
-use Rattle.lines.proofs.text.put.Reads as put-reads
 
--- src/digits.rt:29:9
 hex-digit-requires : tie.Need-hex-digit-requires
 hex-digit-requires c κs = search needs
 
--- src/digits.rt:30:9
 hex-digit-requires-2 : tie.Need-hex-digit-requires-2
 hex-digit-requires-2 c κs = search needs
 
--- src/digits.rt:31:9
 hex-digit-requires-3 : tie.Need-hex-digit-requires-3
 hex-digit-requires-3 c κs = search needs
 
--- src/digits.rt:32:9
 hex-digit-requires-4 : tie.Need-hex-digit-requires-4
 hex-digit-requires-4 c κs = search needs
 
--- src/digits.rt:33:9
 hex-digit-requires-5 : tie.Need-hex-digit-requires-5
 hex-digit-requires-5 c κs = search needs
 
--- src/digits.rt:34:9
 hex-digit-requires-6 : tie.Need-hex-digit-requires-6
 hex-digit-requires-6 c κs = search needs
 
--- src/digits.rt:35:9
 hex-digit-requires-7 : tie.Need-hex-digit-requires-7
 hex-digit-requires-7 c κs = search needs
 
--- src/digits.rt:36:9
 hex-digit-requires-8 : tie.Need-hex-digit-requires-8
 hex-digit-requires-8 c κs = search needs
 
--- src/digits.rt:38:18
 slice-aggregate-put : tie.Need-slice-aggregate-put
 slice-aggregate-put c = search needs
 
--- src/digits.rt:38:5
 put-requires : tie.Need-put-requires
 put-requires c κs = search needs
 
--- src/digits.rt:25:1
 same-length : tie.Need-same-length
 same-length c = search needs
 
--- src/digits.rt:25:1
 returns : tie.Need-returns
 returns c = record { place = c .before .before .put .ensures .place; bytes = cc }
 

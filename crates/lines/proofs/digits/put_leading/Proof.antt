@@ -5,44 +5,31 @@ use Rattle.listing.proofs.Putting.{nothing}
 use borrow.Author.Needs.{needs}
 use Rattle.lines.proofs.digits.put_leading.Statement.{statement}
 use Rattle.lines.proofs.digits.put_leading.Tie as tie
-use Rattle.lines.proofs.digits.put_leading.Reads as reads
-use Rattle.lines.proofs.digits.put_leading.Lts as lts
-use Rattle.lines.proofs.digits.decimal_digit.Reads as decimal-digit-reads
-use Rattle.lines.proofs.text.put.Reads as put-reads
-use Rattle.lines.proofs.text.put_nothing.Reads as put-nothing-reads
 
--- src/digits.rt:57:9
 put-nothing-requires : tie.Need-put-nothing-requires
 put-nothing-requires c κs = search needs
 
--- src/digits.rt:57:9
 same-length : tie.Need-same-length
 same-length c = search needs
 
--- src/digits.rt:57:9
 returns : tie.Need-returns
 unfolding leading
 returns c =
     let a = c .before .before .before .before .args in
     simp (eq-eqb _ _ (c .before .before .if1 .taken)) (nothing (now (a .out)) (a .at) (c .put-nothing .result) (c .put-nothing .ensures))
 
--- src/digits.rt:59:17
 decimal-digit-requires : tie.Need-decimal-digit-requires
 decimal-digit-requires c κs = search needs
 
--- src/digits.rt:60:18
 slice-aggregate-put : tie.Need-slice-aggregate-put
 slice-aggregate-put c = search needs
 
--- src/digits.rt:60:5
 put-requires : tie.Need-put-requires
 put-requires c κs = search needs
 
--- src/digits.rt:53:1
 same-length-2 : tie.Need-same-length-2
 same-length-2 c = search needs
 
--- src/digits.rt:53:1
 returns-2 : tie.Need-returns-2
 unfolding leading
 returns-2 c =

@@ -3,46 +3,31 @@ use Rattle.listing.proofs.Putting.{_then_}
 use borrow.Author.Needs.{needs}
 use Rattle.lines.proofs.forms.put_found.Statement.{statement}
 use Rattle.lines.proofs.forms.put_found.Tie as tie
-use Rattle.lines.proofs.forms.put_found.Reads as reads
-use Rattle.lines.proofs.forms.put_found.Lts as lts
-use Rattle.lines.proofs.digits.put_hex.Reads as put-hex-reads
-use Rattle.lines.proofs.digits.put_hex8.Reads as put-hex8-reads
-use Rattle.lines.proofs.forms.put_verdict.Reads as put-verdict-reads
-use Rattle.lines.proofs.text.put.Reads as put-reads
 
--- src/forms.rt:51:27
 slice-aggregate-put : tie.Need-slice-aggregate-put
 slice-aggregate-put c = search needs
 
--- src/forms.rt:51:9
 put-requires : tie.Need-put-requires
 put-requires c κs = search needs
 
--- src/forms.rt:52:9
 put-hex8-requires : tie.Need-put-hex8-requires
 put-hex8-requires c κs = search needs
 
--- src/forms.rt:53:27
 slice-aggregate-put-2 : tie.Need-slice-aggregate-put-2
 slice-aggregate-put-2 c = search needs
 
--- src/forms.rt:53:9
 put-requires-2 : tie.Need-put-requires-2
 put-requires-2 c κs = search needs
 
--- src/forms.rt:54:9
 put-hex-requires : tie.Need-put-hex-requires
 put-hex-requires c κs = search needs
 
--- src/forms.rt:55:5
 put-verdict-requires : tie.Need-put-verdict-requires
 put-verdict-requires c κs = search needs
 
--- src/forms.rt:39:1
 same-length : tie.Need-same-length
 same-length c = search needs
 
--- src/forms.rt:39:1
 returns : tie.Need-returns
 unfolding foundLine
 returns c =

@@ -3,36 +3,25 @@ use Rattle.listing.proofs.Putting.{_then_}
 use borrow.Author.Needs.{needs}
 use Rattle.lines.proofs.forms.put_run.Statement.{statement}
 use Rattle.lines.proofs.forms.put_run.Tie as tie
-use Rattle.lines.proofs.forms.put_run.Reads as reads
-use Rattle.lines.proofs.forms.put_run.Lts as lts
-use Rattle.lines.proofs.digits.put_hex8.Reads as put-hex8-reads
-use Rattle.lines.proofs.text.put.Reads as put-reads
 
--- src/forms.rt:21:27
 slice-aggregate-put : tie.Need-slice-aggregate-put
 slice-aggregate-put c = search needs
 
--- src/forms.rt:21:9
 put-requires : tie.Need-put-requires
 put-requires c κs = search needs
 
--- src/forms.rt:22:9
 put-hex8-requires : tie.Need-put-hex8-requires
 put-hex8-requires c κs = search needs
 
--- src/forms.rt:23:18
 slice-aggregate-put-2 : tie.Need-slice-aggregate-put-2
 slice-aggregate-put-2 c = search needs
 
--- src/forms.rt:23:5
 put-requires-2 : tie.Need-put-requires-2
 put-requires-2 c κs = search needs
 
--- src/forms.rt:17:1
 same-length : tie.Need-same-length
 same-length c = search needs
 
--- src/forms.rt:17:1
 returns : tie.Need-returns
 unfolding runLine
 returns c =

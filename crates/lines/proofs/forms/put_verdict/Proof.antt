@@ -4,55 +4,40 @@ use Rattle.listing.proofs.Putting.{_then_}
 use borrow.Author.Needs.{needs}
 use Rattle.lines.proofs.forms.put_verdict.Statement.{statement}
 use Rattle.lines.proofs.forms.put_verdict.Tie as tie
-use Rattle.lines.proofs.forms.put_verdict.Reads as reads
-use Rattle.lines.proofs.forms.put_verdict.Lts as lts
-use Rattle.lines.proofs.digits.put_hex.Reads as put-hex-reads
-use Rattle.lines.proofs.text.put.Reads as put-reads
 
--- src/forms.rt:31:29
 slice-aggregate-put : tie.Need-slice-aggregate-put
 slice-aggregate-put c = search needs
 
--- src/forms.rt:31:9
 put-requires : tie.Need-put-requires
 put-requires c κs = search needs
 
--- src/forms.rt:31:9
 same-length : tie.Need-same-length
 same-length c = search needs
 
--- src/forms.rt:31:9
 returns : tie.Need-returns
 unfolding verdict
 returns c =
     let p = c .before .before in
     simp (eq-eqb _ _ (p .before .before .before .if1 .taken)) (p .put .ensures)
 
--- src/forms.rt:33:27
 slice-aggregate-put-2 : tie.Need-slice-aggregate-put-2
 slice-aggregate-put-2 c = search needs
 
--- src/forms.rt:33:9
 put-requires-2 : tie.Need-put-requires-2
 put-requires-2 c κs = search needs
 
--- src/forms.rt:34:9
 put-hex-requires : tie.Need-put-hex-requires
 put-hex-requires c κs = search needs
 
--- src/forms.rt:35:18
 slice-aggregate-put-3 : tie.Need-slice-aggregate-put-3
 slice-aggregate-put-3 c = search needs
 
--- src/forms.rt:35:5
 put-requires-3 : tie.Need-put-requires-3
 put-requires-3 c κs = search needs
 
--- src/forms.rt:27:1
 same-length-2 : tie.Need-same-length-2
 same-length-2 c = search needs
 
--- src/forms.rt:27:1
 returns-2 : tie.Need-returns-2
 unfolding verdict
 returns-2 c =

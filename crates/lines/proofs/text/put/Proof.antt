@@ -9,10 +9,6 @@ use Rattle.listing.specs.Put.{Put}
 use Rattle.listing.proofs.Putting.{nothing, more}
 use Rattle.lines.proofs.text.put.Statement.{statement}
 use Rattle.lines.proofs.text.put.Tie as tie
-use Rattle.lines.proofs.text.put.Reads as reads
-use Rattle.lines.proofs.text.put.Lts as lts
-use Rattle.lines.proofs.text.put_byte.Reads as put-byte-reads
-use Rattle.lines.proofs.text.put_nothing.Reads as put-nothing-reads
 
 abbrev Inv-loop : tie.InvT-loop
 Inv-loop out₀ at text place₀ i₀ out place i = (i ≤ length text) × (length out ≡ length out₀) × Put out₀ at (take i text) out place
@@ -20,33 +16,26 @@ Inv-loop out₀ at text place₀ i₀ out place i = (i ≤ length text) × (leng
 abbrev μ-loop : tie.MeasureT-loop
 μ-loop out₀ at text place₀ i₀ out place i = length text - i
 
--- src/text.rt:22:9
 put-nothing-requires : tie.Need-put-nothing-requires Inv-loop μ-loop
 put-nothing-requires c κs = search needs
 
--- src/text.rt:24:5
 loop-holds : tie.Need-loop-holds Inv-loop μ-loop
 loop-holds c =
     let a = c .before .before .before .before .args in
     (search needs, refl, nothing (now (a .out)) (a .at) (c .put-nothing .result) (c .put-nothing .ensures))
 
--- src/text.rt:25:38
 shared-slice-read-put-byte : tie.Need-shared-slice-read-put-byte Inv-loop μ-loop
 shared-slice-read-put-byte c = search needs
 
--- src/text.rt:25:9
 put-byte-requires : tie.Need-put-byte-requires Inv-loop μ-loop
 put-byte-requires c κs = search needs
 
--- src/text.rt:26:9
 add-i : tie.Need-add-i Inv-loop μ-loop
 add-i c = search needs
 
--- src/text.rt:24:5
 loop-less : tie.Need-loop-less Inv-loop μ-loop
 loop-less c = search needs
 
--- src/text.rt:24:5
 loop-again : tie.Need-loop-again Inv-loop μ-loop
 loop-again c =
     let b = c .before .before in
@@ -59,11 +48,9 @@ loop-again c =
       more (now (a .text)) (l .loop .i) (inv .2) left (b .put-byte .ensures .0) (b .put-byte .ensures .1),
     )
 
--- src/text.rt:19:1
 same-length : tie.Need-same-length Inv-loop μ-loop
 same-length c = search needs
 
--- src/text.rt:19:1
 returns : tie.Need-returns Inv-loop μ-loop
 returns c =
     let l = c .before in

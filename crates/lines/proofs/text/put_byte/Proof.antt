@@ -4,26 +4,19 @@ use native.Mathlib.Omega.{arith}
 use borrow.Author.Needs.{needs}
 use Rattle.lines.proofs.text.put_byte.Statement.{statement}
 use Rattle.lines.proofs.text.put_byte.Tie as tie
-use Rattle.lines.proofs.text.put_byte.Reads as reads
-use Rattle.lines.proofs.text.put_byte.Lts as lts
 
--- src/text.rt:12:9
 slice-write-out : tie.Need-slice-write-out
 slice-write-out c = search needs
 
--- src/text.rt:13:16
 add-result : tie.Need-add-result
 add-result c = search needs
 
--- src/text.rt:13:9
 same-length : tie.Need-same-length
 same-length c = search needs
 
--- src/text.rt:13:9
 returns : tie.Need-returns
 returns c = search needs
 
--- src/text.rt:8:1
 returns-2 : tie.Need-returns-2
 returns-2 c = (omega arith, sym (set-out _ _ _ (c .if1 .left)))
 

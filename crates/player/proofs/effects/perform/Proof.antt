@@ -4,130 +4,89 @@ use Rattle.player.proofs.Performing.{unlisted-call, listed-call, state-
 use borrow.Author.Needs.{needs}
 use Rattle.player.proofs.effects.perform.Statement.{statement}
 use Rattle.player.proofs.effects.perform.Tie as tie
-use Rattle.player.proofs.effects.perform.Reads as reads
-use Rattle.player.proofs.effects.perform.Lts as lts
-use Rattle.access.proofs.write_register.Reads as write-register-reads
-use Rattle.access.proofs.acknowledge.Reads as acknowledge-reads
-use Rattle.access.proofs.sp_break.Reads as sp-break-reads
-use Rattle.access.proofs.tick.Reads as tick-reads
-use Rattle.player.proofs.effects.check_listed.Reads as check-listed-reads
-use Rattle.player.proofs.effects.dp_run_listed.Reads as dp-run-listed-reads
-use Rattle.player.proofs.effects.read_listed.Reads as read-listed-reads
-use Rattle.player.proofs.effects.sp_run_listed.Reads as sp-run-listed-reads
-use Rattle.player.proofs.effects.unchanged.Reads as unchanged-reads
-use Rattle.player.proofs.effects.unlisted.Reads as unlisted-reads
-use Rattle.player.proofs.stored.store_at.Reads as store-at-reads
 
--- src/effects.rt:141:25
 enum-told : tie.Need-enum-told
 enum-told c = search needs
 
--- src/effects.rt:141:25
 unchanged-requires : tie.Need-unchanged-requires
 unchanged-requires c κs = search needs
 
--- src/effects.rt:142:23
 enum-known-item : tie.Need-enum-known-item
 enum-known-item c = search needs
 
--- src/effects.rt:142:41
 write-register-requires : tie.Need-write-register-requires
 write-register-requires c κs = search needs
 
--- src/effects.rt:142:32
 unlisted-requires : tie.Need-unlisted-requires
 unlisted-requires c κs = search needs
 
--- src/effects.rt:143:22
 enum-known-item-2 : tie.Need-enum-known-item-2
 enum-known-item-2 c = search needs
 
--- src/effects.rt:143:31
 read-listed-requires : tie.Need-read-listed-requires
 read-listed-requires c κs = search needs
 
--- src/effects.rt:144:23
 enum-known-item-3 : tie.Need-enum-known-item-3
 enum-known-item-3 c = search needs
 
--- src/effects.rt:144:34
 sp-run-listed-requires : tie.Need-sp-run-listed-requires
 sp-run-listed-requires c κs = search needs
 
--- src/effects.rt:145:23
 enum-known-item-4 : tie.Need-enum-known-item-4
 enum-known-item-4 c = search needs
 
--- src/effects.rt:145:34
 dp-run-listed-requires : tie.Need-dp-run-listed-requires
 dp-run-listed-requires c κs = search needs
 
--- src/effects.rt:146:22
 enum-known-item-5 : tie.Need-enum-known-item-5
 enum-known-item-5 c = search needs
 
--- src/effects.rt:146:37
 tick-requires : tie.Need-tick-requires
 tick-requires c κs = search needs
 
--- src/effects.rt:146:28
 unlisted-requires-2 : tie.Need-unlisted-requires-2
 unlisted-requires-2 c κs = search needs
 
--- src/effects.rt:147:35
 enum-told-2 : tie.Need-enum-told-2
 enum-told-2 c = search needs
 
--- src/effects.rt:147:35
 sp-break-requires : tie.Need-sp-break-requires
 sp-break-requires c κs = search needs
 
--- src/effects.rt:147:26
 unlisted-requires-3 : tie.Need-unlisted-requires-3
 unlisted-requires-3 c κs = search needs
 
--- src/effects.rt:148:41
 enum-told-3 : tie.Need-enum-told-3
 enum-told-3 c = search needs
 
--- src/effects.rt:148:41
 acknowledge-requires : tie.Need-acknowledge-requires
 acknowledge-requires c κs = search needs
 
--- src/effects.rt:148:32
 unlisted-requires-4 : tie.Need-unlisted-requires-4
 unlisted-requires-4 c κs = search needs
 
--- src/effects.rt:149:23
 enum-known-item-6 : tie.Need-enum-known-item-6
 enum-known-item-6 c = search needs
 
--- src/effects.rt:150:13
 store-at-requires : tie.Need-store-at-requires
 store-at-requires c κs = search needs
 
--- src/effects.rt:151:13
 unchanged-requires-2 : tie.Need-unchanged-requires-2
 unchanged-requires-2 c κs = search needs
 
--- src/effects.rt:153:23
 enum-known-item-7 : tie.Need-enum-known-item-7
 enum-known-item-7 c = search needs
 
--- src/effects.rt:154:17
 check-listed-requires : tie.Need-check-listed-requires
 check-listed-requires c κs = search needs
 
--- src/effects.rt:155:13
 unchanged-requires-3 : tie.Need-unchanged-requires-3
 unchanged-requires-3 c κs = search needs
 
--- src/effects.rt:127:1
 returns : tie.Need-returns
 unfolding after line
 returns c = state-kept (c .before .enum-told .given .1) (c .unchanged .ensures) refl refl (no-line (c .before .before .before .before .before .before .before .pre))
 
--- src/effects.rt:127:1
 returns-2 : tie.Need-returns-2
 unfolding after line
 returns-2 c =
@@ -139,11 +98,9 @@ returns-2 c =
     refl
     refl
 
--- src/effects.rt:127:1
 same-length : tie.Need-same-length
 same-length c = search needs
 
--- src/effects.rt:127:1
 returns-3 : tie.Need-returns-3
 unfolding after line
 returns-3 c =
@@ -154,23 +111,18 @@ returns-3 c =
     refl
     refl
 
--- src/effects.rt:127:1
 same-length-2 : tie.Need-same-length-2
 same-length-2 c = search needs
 
--- src/effects.rt:127:1
 same-length-3 : tie.Need-same-length-3
 same-length-3 c = search needs
 
--- src/effects.rt:127:1
 same-length-4 : tie.Need-same-length-4
 same-length-4 c = search needs
 
--- src/effects.rt:127:1
 same-length-5 : tie.Need-same-length-5
 same-length-5 c = search needs
 
--- src/effects.rt:127:1
 returns-4 : tie.Need-returns-4
 unfolding after line
 returns-4 c =
@@ -181,19 +133,15 @@ returns-4 c =
     refl
     refl
 
--- src/effects.rt:127:1
 same-length-6 : tie.Need-same-length-6
 same-length-6 c = search needs
 
--- src/effects.rt:127:1
 same-length-7 : tie.Need-same-length-7
 same-length-7 c = search needs
 
--- src/effects.rt:127:1
 same-length-8 : tie.Need-same-length-8
 same-length-8 c = search needs
 
--- src/effects.rt:127:1
 returns-5 : tie.Need-returns-5
 unfolding after line
 returns-5 c =
@@ -204,7 +152,6 @@ returns-5 c =
     refl
     refl
 
--- src/effects.rt:127:1
 returns-6 : tie.Need-returns-6
 unfolding after line
 returns-6 c =
@@ -216,7 +163,6 @@ returns-6 c =
     refl
     refl
 
--- src/effects.rt:127:1
 returns-7 : tie.Need-returns-7
 unfolding after line
 returns-7 c =
@@ -228,7 +174,6 @@ returns-7 c =
     refl
     refl
 
--- src/effects.rt:127:1
 returns-8 : tie.Need-returns-8
 unfolding after line
 returns-8 c =
@@ -240,41 +185,32 @@ returns-8 c =
     refl
     refl
 
--- src/effects.rt:127:1
 same-length-9 : tie.Need-same-length-9
 same-length-9 c = search needs
 
--- src/effects.rt:127:1
 same-length-10 : tie.Need-same-length-10
 same-length-10 c = search needs
 
--- src/effects.rt:127:1
 same-length-11 : tie.Need-same-length-11
 same-length-11 c = search needs
 
--- src/effects.rt:127:1
 returns-9 : tie.Need-returns-9
 unfolding after line
 returns-9 c =
     state-kept (c .before .before .before .before .before .before .before .before .before .before .before .before .item6 .given .1) (c .unchanged2 .ensures) (c .before .before .before .before .before .before .before .store-at .ensures) refl (no-line (c .before .before .before .before .before .before .before .before .before .before .before .before .before .before .before .before .before .before .pre))
 
--- src/effects.rt:127:1
 same-length-12 : tie.Need-same-length-12
 same-length-12 c = search needs
 
--- src/effects.rt:127:1
 same-length-13 : tie.Need-same-length-13
 same-length-13 c = search needs
 
--- src/effects.rt:127:1
 same-length-14 : tie.Need-same-length-14
 same-length-14 c = search needs
 
--- src/effects.rt:127:1
 same-length-15 : tie.Need-same-length-15
 same-length-15 c = search needs
 
--- src/effects.rt:127:1
 returns-10 : tie.Need-returns-10
 unfolding after line
 returns-10 c = state-kept (c .before .before .before .before .before .before .before .before .before .item7 .given .1) (c .unchanged3 .ensures) refl refl (c .before .before .before .check-listed .ensures)

@@ -2,15 +2,14 @@ use Prim.Native.Nat.{ℕ, _-_, _≤_, _<_}
 use mathlib.Core.Path.{_≡_, refl, _∙_}
 use native.Mathlib.Omega.{arith}
 use mathlib.Core.List.{List}
-use lib.ListN.{length, drop}
+use lib.ListN.{length}
 use borrow.Author.Needs.{needs}
 use denote.Ref.{now}
 use Rattle.words.specs.Memory.{memory}
 use Rattle.laws.specs.World.{world}
 use Rattle.recording.specs.declared.Reading.{Reading}
 use Rattle.recording.specs.Reader.{longest, readRecord}
-use Rattle.recording.specs.Split.{split}
-use Rattle.recording.proofs.Splitting.{moves-on}
+use Rattle.recording.proofs.Splitting.{splitAt, moves-on}
 use Rattle.playback.proofs.Steps.{Leads, next-record, stopped, finished, plays}
 use Rattle.player.proofs.playing.play.Statement.{statement}
 use Rattle.player.proofs.playing.play.Tie as tie
@@ -31,7 +30,7 @@ Inv-loop recording rdram₀ dmem₀ imem₀ out₀ from state₀ place₀ at₀ 
     (at ≤ length recording)
     × (count ≤ at)
     × (place ≤ length out)
-    × Leads count (split (drop at recording)) (world state (memory rdram dmem imem)) out place 0 (split (drop 0 recording))
+    × Leads count (splitAt at recording) (world state (memory rdram dmem imem)) out place 0 (splitAt 0 recording)
     (world state₀ (memory rdram₀ dmem₀ imem₀)) out₀ from
     × (length rdram ≡ length rdram₀)
     × (length dmem ≡ length dmem₀)
@@ -42,19 +41,15 @@ abbrev μ-loop : tie.MeasureT-loop
 μ-loop recording rdram₀ dmem₀ imem₀ out₀ from state₀ place₀ at₀ count₀ rdram dmem imem out state place at count =
     length recording - at
 
--- src/playing.rt:53:5
 loop-holds : tie.Need-loop-holds Inv-loop μ-loop
 loop-holds c = (search needs, search needs, search needs, λ r m d f. f, refl, refl, refl, refl)
 
--- src/playing.rt:54:13
 read-record-requires : tie.Need-read-record-requires Inv-loop μ-loop
 read-record-requires c κs = search needs
 
--- src/playing.rt:58:17
 perform-requires : tie.Need-perform-requires Inv-loop μ-loop
 perform-requires c κs = search needs
 
--- src/playing.rt:62:13
 add-count : tie.Need-add-count Inv-loop μ-loop
 add-count c = omega (arith, c .before .before .before .before .before .before .before .before .before .before .before .before .before .before .before .before .before .loop .inv .1, c .before .before .before .before .before .before .before .before .before .before .before .before .before .before .before .before .loop-test .taken, c .before .before .before .before .before .before .before .before .before .before .before .before .before .before .before .before .before .before .before .before .before .before .before .pre .0)
 
@@ -62,13 +57,11 @@ goes-on : (c : lts.After-state (read-record-reads.Asked, read-record-reads.Learn
     → (c .before .before .before .before .before .before .before .before .before .before .before .before .before .before .before .before .before .loop .at < c .before .before .before .before .before .before .before .before .before .before .before .before .before .before .before .read-record .result .place) × (c .before .before .before .before .before .before .before .before .before .before .before .before .before .before .before .read-record .result .place ≤ length (now (c .before .before .before .before .before .before .before .before .before .before .before .before .before .before .before .before .before .before .before .before .before .before .before .args .recording)))
 goes-on c = moved-on (now (c .before .before .before .before .before .before .before .before .before .before .before .before .before .before .before .before .before .before .before .before .before .before .before .args .recording)) (c .before .before .before .before .before .before .before .before .before .before .before .before .before .before .before .before .before .loop .at) (c .before .before .before .before .before .before .before .before .before .before .before .before .before .before .before .read-record .result) (c .before .before .before .before .before .before .before .before .before .before .before .before .before .before .before .before .before .before .before .before .before .before .before .pre .0) (c .before .before .before .before .before .before .before .before .before .before .before .before .before .before .before .read-record .ensures .reading) (c .before .before .before .before .before .before .before .before .before .before .before .before .before .before .if1 .taken)
 
--- src/playing.rt:53:5
 loop-less : tie.Need-loop-less Inv-loop μ-loop
 loop-less c =
     let on = goes-on c in
     omega (arith, on .0, on .1)
 
--- src/playing.rt:53:5
 loop-again : tie.Need-loop-again Inv-loop μ-loop
 loop-again c =
     let l = c .before .before .before .before .before .before .before .before .before .before .before .before .before .before .before .before .before .loop in
@@ -88,31 +81,24 @@ loop-again c =
       p .kept .1 .1 .1 .1 .1 .0 ∙ i .7,
     )
 
--- src/playing.rt:64:17
 put-stop-requires : tie.Need-put-stop-requires Inv-loop μ-loop
 put-stop-requires c κs = search needs
 
--- src/playing.rt:65:13
 replayed-requires : tie.Need-replayed-requires Inv-loop μ-loop
 replayed-requires c κs = search needs
 
--- src/playing.rt:65:13
 same-length : tie.Need-same-length Inv-loop μ-loop
 same-length c = search needs
 
--- src/playing.rt:65:13
 same-length-2 : tie.Need-same-length-2 Inv-loop μ-loop
 same-length-2 c = search needs
 
--- src/playing.rt:65:13
 same-length-3 : tie.Need-same-length-3 Inv-loop μ-loop
 same-length-3 c = search needs
 
--- src/playing.rt:65:13
 same-length-4 : tie.Need-same-length-4 Inv-loop μ-loop
 same-length-4 c = search needs
 
--- src/playing.rt:65:13
 returns : tie.Need-returns Inv-loop μ-loop
 returns c =
     let l = c .before .before .before .before .before .before .before .before .loop in
@@ -120,33 +106,26 @@ returns c =
     plays s _
     (l .inv .3 _ _ _
     (stopped s (l .at) (l .count) (c .before .before .before .before .before .before .read-record .result) (l .state) (memory (l .rdram) (l .dmem) (l .imem)) (c .replayed .result) (c .before .before .before .before .before .before .before .before .before .before .before .before .before .before .pre .0)
-    (c .before .before .before .before .before .before .before .loop-test .taken) (c .before .before .before .before .before .before .read-record .ensures .reading) (c .before .before .before .before .before .if1 .left) (c .before .before .before .put-stop .ensures) (c .replayed .ensures .0) (c .replayed .ensures .1)))
+    (c .before .before .before .before .before .before .before .loop-test .taken) (c .before .before .before .before .before .before .read-record .ensures .reading) (c .before .before .before .before .before .if1 .left) (c .before .before .before .put-stop .ensures) (c .replayed .ensures .0) (c .replayed .ensures .1) (c .replayed .ensures .2)))
 
--- src/playing.rt:68:9
 put-end-requires : tie.Need-put-end-requires Inv-loop μ-loop
 put-end-requires c κs = search needs
 
--- src/playing.rt:69:5
 replayed-requires-2 : tie.Need-replayed-requires-2 Inv-loop μ-loop
 replayed-requires-2 c κs = search needs
 
--- src/playing.rt:35:1
 same-length-5 : tie.Need-same-length-5 Inv-loop μ-loop
 same-length-5 c = search needs
 
--- src/playing.rt:35:1
 same-length-6 : tie.Need-same-length-6 Inv-loop μ-loop
 same-length-6 c = search needs
 
--- src/playing.rt:35:1
 same-length-7 : tie.Need-same-length-7 Inv-loop μ-loop
 same-length-7 c = search needs
 
--- src/playing.rt:35:1
 same-length-8 : tie.Need-same-length-8 Inv-loop μ-loop
 same-length-8 c = search needs
 
--- src/playing.rt:35:1
 returns-2 : tie.Need-returns-2 Inv-loop μ-loop
 returns-2 c =
     let l = c .before .before .before .before .before .before .loop in
@@ -154,7 +133,7 @@ returns-2 c =
     plays s _
     (l .inv .3 _ _ _
     (finished s (l .at) (l .count) (l .state) (memory (l .rdram) (l .dmem) (l .imem)) (c .replayed2 .result) (c .before .before .before .before .before .loop-test .left)
-    (c .before .before .before .put-end .ensures) (c .replayed2 .ensures .0) (c .replayed2 .ensures .1)))
+    (c .before .before .before .put-end .ensures) (c .replayed2 .ensures .0) (c .replayed2 .ensures .1) (c .replayed2 .ensures .2)))
 
 pub play-spec : {M : Type 1} → statement M
 play-spec =

@@ -4,78 +4,56 @@ use Rattle.playback.proofs.Steps.{short-enough, replays-begun, replays-not}
 use borrow.Author.Needs.{needs}
 use Rattle.player.proofs.playing.replay.Statement.{statement}
 use Rattle.player.proofs.playing.replay.Tie as tie
-use Rattle.player.proofs.playing.replay.Reads as reads
-use Rattle.player.proofs.playing.replay.Lts as lts
-use Rattle.lines.proofs.put_header.Reads as put-header-reads
-use Rattle.lines.proofs.put_stop.Reads as put-stop-reads
-use Rattle.player.proofs.playing.play.Reads as play-reads
-use Rattle.player.proofs.playing.replay_refusal.Reads as replay-refusal-reads
-use Rattle.player.proofs.playing.replayed.Reads as replayed-reads
 
--- src/playing.rt:93:9
 put-header-requires : tie.Need-put-header-requires
 put-header-requires c κs = search needs
 
--- src/playing.rt:94:9
 replay-refusal-requires : tie.Need-replay-refusal-requires
 replay-refusal-requires c κs = search needs
 
--- src/playing.rt:96:9
 play-requires : tie.Need-play-requires
 play-requires c κs =
     let h = c .before .before .before .before .before .before .before .before .before .before .before .put-header in
     (short-enough _ _ (sym (c .before .before .before .before .before .replay-refusal .ensures) ∙ c .before .before .before .before .if1 .taken), omega (arith, h .ensures .place, h .kept .0))
 
--- src/playing.rt:96:9
 same-length : tie.Need-same-length
 same-length c = search needs
 
--- src/playing.rt:96:9
 same-length-2 : tie.Need-same-length-2
 same-length-2 c = search needs
 
--- src/playing.rt:96:9
 same-length-3 : tie.Need-same-length-3
 same-length-3 c = search needs
 
--- src/playing.rt:96:9
 same-length-4 : tie.Need-same-length-4
 same-length-4 c = search needs
 
--- src/playing.rt:96:9
 returns : tie.Need-returns
 returns c =
     replays-begun _ _ _ (sym (c .before .before .before .before .before .before .before .before .before .before .before .before .before .before .replay-refusal .ensures) ∙ c .before .before .before .before .before .before .before .before .before .before .before .before .before .if1 .taken) (c .before .before .before .before .before .before .before .before .before .before .before .before .before .before .before .before .before .before .before .before .put-header .ensures) (c .before .before .before .before .before .before .before .before .play .ensures) refl
 
--- src/playing.rt:98:9
 put-stop-requires : tie.Need-put-stop-requires
 put-stop-requires c κs = search needs
 
--- src/playing.rt:99:5
 replayed-requires : tie.Need-replayed-requires
 replayed-requires c κs = search needs
 
--- src/playing.rt:82:1
 same-length-5 : tie.Need-same-length-5
 same-length-5 c = search needs
 
--- src/playing.rt:82:1
 same-length-6 : tie.Need-same-length-6
 same-length-6 c = search needs
 
--- src/playing.rt:82:1
 same-length-7 : tie.Need-same-length-7
 same-length-7 c = search needs
 
--- src/playing.rt:82:1
 same-length-8 : tie.Need-same-length-8
 same-length-8 c = search needs
 
--- src/playing.rt:82:1
 returns-2 : tie.Need-returns-2
 returns-2 c =
     replays-not _ _ _ (c .before .before .before .before .before .before .replay-refusal .result) (c .before .before .before .before .before .before .replay-refusal .ensures) (c .before .before .before .before .before .if1 .left) (c .before .before .before .before .before .before .before .before .before .before .before .before .put-header .ensures)
-    (c .before .before .before .put-stop .ensures) (c .replayed .ensures .0) (c .replayed .ensures .1) refl
+    (c .before .before .before .put-stop .ensures) (c .replayed .ensures .0) (c .replayed .ensures .1) (c .replayed .ensures .2) refl
 
 pub replay-spec : {M : Type 1} → statement M
 replay-spec =

@@ -8,11 +8,17 @@ enum-told c = search needs
 enum-known-item : tie.Need-enum-known-item
 enum-known-item c = search needs
 
+register-at-requires : tie.Need-register-at-requires
+register-at-requires c κs = search needs
+
 register-number-requires : tie.Need-register-number-requires
 register-number-requires c κs = search needs
 
 enum-known-item-2 : tie.Need-enum-known-item-2
 enum-known-item-2 c = search needs
+
+register-at-requires-2 : tie.Need-register-at-requires-2
+register-at-requires-2 c κs = search needs
 
 register-number-requires-2 : tie.Need-register-number-requires-2
 register-number-requires-2 c κs = search needs
@@ -80,8 +86,10 @@ address-number-spec =
     (tie.spec
     enum-told
     enum-known-item
+    register-at-requires
     register-number-requires
     enum-known-item-2
+    register-at-requires-2
     register-number-requires-2
     enum-told-2
     enum-told-3
