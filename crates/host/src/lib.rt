@@ -78,6 +78,7 @@ pub struct HostReading {
     pub number: u32,
 }
 
+// What a replay gives: how many bytes of the listing were written, and the place where the declined record begins, 0 if there is none.
 #[repr(C)]
 pub struct HostReplayed {
     pub outcome: HostOutcome,

@@ -1,4 +1,4 @@
--- Which addresses are registers, and which register stands at each.
+-- Which addresses are registers, which register stands at each, and the numbers of the other addresses.
 use Prim.Native.Nat.{ℕ, zero, suc, _+_, _*_, _%_, _<_, _≤_}
 use mathlib.Core.Path.{_≡_, refl, sym, _∙_}
 use mathlib.Core.Bool.{Bool, true, false, cond, not, _&&_}

@@ -31,7 +31,7 @@ isRegister (Dp r) = true
 isRegister Misaligned = false
 isRegister Unmapped = false
 
--- The number for what stands at an address: 10, then 5
+-- The number for what stands at an address where a register is due
 abbrev pub registerNumber : Register → ℕ
 registerNumber (Sp r) = 0
 registerNumber (Dp r) = 0
@@ -81,7 +81,7 @@ ifRefused (suc n) refused done = refused
 -- ---- What is proved of the numbers and of declined calls
 
 -- The number n is that of the first check that fails, in the order of the papers, and 0 if none does. An input that a call does not take
--- counts as good
+-- counts as good. Of a register address `multiple` says that it is a multiple of 4, and `register` that a register stands there
 pub record Given (n : ℕ) (rdram dmem imem state multiple register : Bool) : Type 0 where
   pub rdramNumber : eqb n 1 ≡ not rdram
   pub dmemNumber : eqb n 2 ≡ rdram && not dmem

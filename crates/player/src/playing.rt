@@ -82,7 +82,7 @@ fn replay_refusal(s: State, recording: &[u8], rdram: &[u8], dmem: &[u8], imem: &
 }
 
 // Replays a recording, and writes its listing to `out`; 69,204 bytes of room always suffice. It stops at the first record that is declined, with the
-// state and bytes that the records before it left; the count is their number, and `place` is where it begins. Refusals: 9, 1, 2, 3, 4, with place 0;
+// state and bytes that the records before it left; the count is their number, and `place` is where that record begins. Refusals: 9, 1, 2, 3, 4, with place 0;
 // then those of its records: 7, 8, 10, 5, 6.
 pub fn replay(
     s: State,

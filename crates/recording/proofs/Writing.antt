@@ -141,7 +141,7 @@ write-numbers f at n =
     record {
       kindNumber = g .byKind;
       alignedNumber = g .byMultiple;
-      registerNumber = g .byRegister;
+      mappedNumber = g .byRegister;
       memoryNumber = g .byMemory;
       roomNumber = g .byRoom;
       success = g .byNone;

@@ -55,7 +55,7 @@ pub record RecordGiven (s : List ℕ) : Type 0 where
   pub kindNumber : eqb (recordNumber s) 7 ≡ ltb 0 (length s) && not (isKind (kindOf s))
   pub cutNumber : eqb (recordNumber s) 8 ≡ not (ltb 0 (length s)) || (isKind (kindOf s) && not (leb (size (kindOf s)) (length s)))
   pub alignedNumber : eqb (recordNumber s) 10 ≡ whole s && accesses (kindOf s) && not (aligned (four s 1))
-  pub registerNumber : eqb (recordNumber s) 5 ≡ whole s && accesses (kindOf s) && aligned (four s 1) && not (isRegister (registerAt (four s 1)))
+  pub mappedNumber : eqb (recordNumber s) 5 ≡ whole s && accesses (kindOf s) && aligned (four s 1) && not (isRegister (registerAt (four s 1)))
   pub memoryNumber : eqb (recordNumber s) 6 ≡ whole s && storesOrChecks (kindOf s) && not (memoryAllowed (four s 1))
   pub success : eqb (recordNumber s) 0
       ≡ whole s && implies (accesses (kindOf s)) (isRegister (registerAt (four s 1))) && implies (storesOrChecks (kindOf s)) (memoryAllowed (four s 1))

@@ -29,7 +29,7 @@ addressAllowed f =
 pub record WriteNumbers (f : Fields) (at n : ℕ) : Type 0 where
   pub kindNumber : eqb (writeNumber f at n) 7 ≡ not (isKind (f .kind))
   pub alignedNumber : eqb (writeNumber f at n) 10 ≡ isKind (f .kind) && accesses (f .kind) && not (aligned (f .address))
-  pub registerNumber : eqb (writeNumber f at n) 5
+  pub mappedNumber : eqb (writeNumber f at n) 5
       ≡ isKind (f .kind) && accesses (f .kind) && aligned (f .address) && not (isRegister (registerAt (f .address)))
   pub memoryNumber : eqb (writeNumber f at n) 6 ≡ isKind (f .kind) && storesOrChecks (f .kind) && not (memoryAllowed (f .address))
   pub roomNumber : eqb (writeNumber f at n) 14 ≡ isKind (f .kind) && addressAllowed f && not (hasRoom at (f .kind) n)
