@@ -15,7 +15,7 @@ use Rattle.dp.specs.declared.DpRegister.the-variants.{Start, End, Curren
 use Rattle.dp.specs.Sound.{DpSound}
 use Rattle.dp.specs.Lists.{runs, listStarted, limitMoved, startWritten, withEnd, endWritten}
 use Rattle.dp.specs.Registers.{commandBusy, modesWritten, flushed, dpStatusWritten, dpWrite, counted, dpTick, dpAcknowledge}
-use Rattle.dp.specs.Turn.{fetches, opcode, commandLength, nextListWord, framed, advanced, fetched, dpNext, dpStep, dpAfter}
+use Rattle.dp.specs.Turn.{fetches, opcode, commandLength, wordsAfter, nextListWord, framed, advanced, fetched, dpNext, dpStep, dpAfter}
 use Rattle.dp.proofs.Cases.{follows, fetched-cases, none-follows, end-cases, status-cases}
 
 -- ---- A sound state's numbers, in groups that change together, and its implications
@@ -112,7 +112,7 @@ moved-numbers s w g = (g .0, (next (s .current) (g .1 .0 .1), g .1 .1), left (s 
     next : (a : ℕ) → a % 8 ≡ 0 → Address (ramAdd a 8)
     next a e = (omega arith, omega arith)
 
-    left : (n : ℕ) → n ≤ 21 → cond (eqb n 0) (commandLength (opcode w) - 1) (n - 1) ≤ 21
+    left : (n : ℕ) → n ≤ 21 → wordsAfter n (opcode w) ≤ 21
     left n h =
         either (λ (k : ℕ). k ≤ 21) (eqb n 0) (commandLength (opcode w) - 1) (n - 1) (λ _. omega (arith, length-bound (opcode w)))
         (λ _. omega arith)

@@ -1,7 +1,7 @@
--- What paper 01 says of the DP registers: reads and writes, framing, SYNC_FULL, ticks, the acknowledge, and where a turn leads.
+-- What paper 01 says of the DP registers, and request (iii) of PIPE_BUSY: reads and writes, framing, SYNC_FULL, ticks, the acknowledge, and where a turn leads.
 use Prim.Native.Nat.{ℕ, suc, _+_, _-_, _%_, _<_, _≤_}
 use mathlib.Core.Path.{_≡_, refl, sym, ap, _∙_}
-use mathlib.Core.Bool.{Bool, true, false, not, cond, _&&_, _||_, or-true, or-false, and-false, and-true as and-true-right}
+use mathlib.Core.Bool.{Bool, true, false, not, cond, _&&_, _||_, or-true, or-false, and-false}
 use mathlib.Core.List.{List, [], _∷_}
 use native.Mathlib.Omega.{arith}
 use native.Mathlib.Nat.{le-of-eq, not-le-of-lt}
@@ -18,8 +18,8 @@ use Rattle.dp.specs.declared.DpRegister.the-variants.{Start, End, Curren
 use Rattle.dp.specs.Sound.{DpSound}
 use Rattle.dp.specs.Lists.{runs, listStarted, limitMoved, startWritten}
 use Rattle.dp.specs.Registers.{dpRegister, commandBusy, dpRead, modesWritten, flushed, setsFlush, dpWrite, dpTick, dpAcknowledge}
-use Rattle.dp.specs.Turn.{fetches, listWord, nextListWord, opcode, commandLength, syncFull, framed, advanced, fetched, dpNext}
-use Rattle.dp.proofs.Cases.{fetch-on, flush-off, follows, fetched-cases, next-address, list-follows, none-follows, end-cases, status-cases}
+use Rattle.dp.specs.Turn.{fetches, listWord, nextListWord, opcode, commandLength, wordsAfter, syncFull, framed, advanced, fetched, dpNext}
+use Rattle.dp.proofs.Cases.{fetch-on, flush-off, fetched-cases, next-address, list-follows, none-follows, end-cases, status-cases}
 use Rattle.dp.proofs.Listed.{next-fetched, next-still}
 
 list-runs : (s : DpState) → fetches s ≡ true → s .current < s .limit
@@ -56,7 +56,6 @@ pub record StartPends (s t : DpState) : Type 0 where
   pub current : t .current ≡ s .current
   pub limit : t .limit ≡ s .limit
   pub endpending : t .endpending ≡ s .endpending
-  pub pipebusy : t .pipebusy ≡ s .pipebusy
 
 pub start-pends : (s : DpState) (v : ℕ) → StartPends s (dpWrite Start s v)
 unfolding startWritten
@@ -70,20 +69,18 @@ pub record ListStarted (a b : ℕ) (t : DpState) : Type 0 where
   pub limit : t .limit ≡ b
   pub startpending : t .startpending ≡ false
   pub endpending : t .endpending ≡ false
-  pub pipebusy : t .pipebusy ≡ true
 
--- With START_PENDING off it moves LIMIT, and PIPE_BUSY turns on where that leaves a list running
+-- With START_PENDING off it moves LIMIT
 pub record LimitMoved (s : DpState) (b : ℕ) (t : DpState) : Type 0 where
   pub current : t .current ≡ s .current
   pub limit : t .limit ≡ b
-  pub pipebusy : t .pipebusy ≡ (s .pipebusy || runs t)
 
 pub end-moves-limit : (s : DpState) (v : ℕ) → s .startpending ≡ false
     → LimitMoved s (cond (s .flush) (s .current) (ramAddress v)) (dpWrite End s v)
 unfolding limitMoved
 end-moves-limit s v off =
     end-cases (LimitMoved s (cond (s .flush) (s .current) (ramAddress v))) s v (λ p _. contradiction p off) (λ p _. contradiction p off)
-    (λ _. record { current = refl; limit = refl; pipebusy = refl })
+    (λ _. record { current = refl; limit = refl })
 
 -- With START_PENDING on the list waits, where another runs or FREEZE is on
 pub record ListWaits (s t : DpState) : Type 0 where
@@ -91,12 +88,11 @@ pub record ListWaits (s t : DpState) : Type 0 where
   pub limit : t .limit ≡ s .limit
   pub startpending : t .startpending ≡ true
   pub endpending : t .endpending ≡ true
-  pub pipebusy : t .pipebusy ≡ s .pipebusy
 
 pub end-waits : (s : DpState) (v : ℕ) → s .startpending ≡ true → runs s || s .freeze ≡ true → ListWaits s (dpWrite End s v)
 end-waits s v on w =
     end-cases (ListWaits s) s v
-    (λ p _. record { current = refl; limit = refl; startpending = p; endpending = refl; pipebusy = refl })
+    (λ p _. record { current = refl; limit = refl; startpending = p; endpending = refl })
     (λ _ n. contradiction w n)
     (λ p. contradiction on p)
 
@@ -106,7 +102,7 @@ pub end-starts : (s : DpState) (v : ℕ) → s .startpending ≡ true → runs s
 unfolding listStarted
 end-starts s v on n =
     end-cases (ListStarted (s .start) (cond (s .flush) (s .start) (ramAddress v))) s v (λ _ w. contradiction w n)
-    (λ _ _. record { current = refl; limit = refl; startpending = refl; endpending = refl; pipebusy = refl })
+    (λ _ _. record { current = refl; limit = refl; startpending = refl; endpending = refl })
     (λ p. contradiction on p)
 
 -- ---- Framing
@@ -116,12 +112,12 @@ pub first-byte-mod-64 : (s : DpState) (b c : ℕ) (v w : List ℕ) → b % 64 �
 unfolding dpNext framed
 first-byte-mod-64 s b c v w e = rw e
 
-words-after : (s : DpState) (w : List ℕ) → fetches s ≡ true
-    → (dpNext s w) .wordsleft ≡ cond (eqb (s .wordsleft) 0) (commandLength (opcode w) - 1) (s .wordsleft - 1)
+pub words-after : (s : DpState) (w : List ℕ) → fetches s ≡ true
+    → (dpNext s w) .wordsleft ≡ wordsAfter (s .wordsleft) (opcode w)
 unfolding advanced framed listStarted
 words-after s w e =
-    let left = cond (eqb (s .wordsleft) 0) (commandLength (opcode w) - 1) (s .wordsleft - 1) in
-    rw (next-fetched s w e) (fetched-cases (λ (t : DpState). t .wordsleft ≡ left) s w (λ _. refl) (λ _. refl))
+    rw (next-fetched s w e)
+    (fetched-cases (λ (t : DpState). t .wordsleft ≡ wordsAfter (s .wordsleft) (opcode w)) s w (λ _. refl) (λ _. refl))
 
 -- With words left 0, a word begins a command
 pub frames-command : (s : DpState) (b : ℕ) (v : List ℕ) → s .wordsleft ≡ 0 → fetches s ≡ true
@@ -139,15 +135,6 @@ unfolding advanced framed listStarted
 line-after s w e =
     rw (next-fetched s w e) (fetched-cases (λ (t : DpState). t .line ≡ (s .line || syncFull s w)) s w (λ _. refl) (λ _. refl))
 
-pipe-after : (s : DpState) (w : List ℕ) → fetches s ≡ true
-    → (dpNext s w) .pipebusy ≡ (s .pipebusy && not (syncFull s w) || follows s)
-unfolding advanced framed listStarted
-pipe-after s w e =
-    let busy = s .pipebusy && not (syncFull s w) in
-    rw (next-fetched s w e)
-    (fetched-cases (λ (t : DpState). t .pipebusy ≡ (busy || follows s)) s w (λ f. sym (ap (λ (b : Bool). busy || b) f ∙ or-true busy))
-    (λ f. sym (ap (λ (b : Bool). busy || b) f ∙ or-false busy)))
-
 sync-full : (s : DpState) (b : ℕ) (v : List ℕ) → s .wordsleft ≡ 0 → b % 64 ≡ 0x29 → syncFull s (b ∷ v) ≡ true
 sync-full s b v z op = true-and (eqb (s .wordsleft) 0) (eqb (b % 64) 0x29) (eq-eqb (s .wordsleft) 0 z) (eq-eqb (b % 64) 0x29 op)
 
@@ -164,26 +151,40 @@ pub sync-full-raises : (s : DpState) (b : ℕ) (v : List ℕ) → s .wordsleft �
     → (dpNext s (b ∷ v)) .line ≡ true
 sync-full-raises s b v z op e = line-after s (b ∷ v) e ∙ ap (λ (t : Bool). s .line || t) (sync-full s b v z op) ∙ or-true (s .line)
 
--- It turns PIPE_BUSY off; a list that starts in the same turn turns it on again
-pub sync-full-ends-pipe : (s : DpState) (b : ℕ) (v : List ℕ) → s .wordsleft ≡ 0 → b % 64 ≡ 0x29 → fetches s ≡ true
-    → (dpNext s (b ∷ v)) .pipebusy ≡ follows s
-sync-full-ends-pipe s b v z op e =
-    pipe-after s (b ∷ v) e
-    ∙ ap (λ (t : Bool). s .pipebusy && not t || follows s) (sync-full s b v z op)
-    ∙ ap (λ (t : Bool). t || follows s) (and-false (s .pipebusy))
-
--- Every other word, one inside a command too, keeps both; a list that starts turns PIPE_BUSY on
+-- Every other word, one inside a command too, keeps it
 pub other-words-keep-line : (s : DpState) (b : ℕ) (v : List ℕ) → (s .wordsleft ≡ 0 → b % 64 ≡ 0x29 → ⊥) → fetches s ≡ true
     → (dpNext s (b ∷ v)) .line ≡ s .line
 other-words-keep-line s b v f e =
     line-after s (b ∷ v) e ∙ ap (λ (t : Bool). s .line || t) (no-sync-full s b v f) ∙ or-false (s .line)
 
-pub other-words-keep-pipe : (s : DpState) (b : ℕ) (v : List ℕ) → (s .wordsleft ≡ 0 → b % 64 ≡ 0x29 → ⊥) → fetches s ≡ true
-    → (dpNext s (b ∷ v)) .pipebusy ≡ (s .pipebusy || follows s)
-other-words-keep-pipe s b v f e =
-    pipe-after s (b ∷ v) e
-    ∙ ap (λ (t : Bool). s .pipebusy && not t || follows s) (no-sync-full s b v f)
-    ∙ ap (λ (t : Bool). t || follows s) (and-true-right (s .pipebusy))
+-- ---- PIPE_BUSY
+
+-- No write changes it: neither one that starts a list, even an empty one, nor one that moves LIMIT or sets FLUSH
+pub writes-keep-pipe : (r : DpRegister) (s : DpState) (v : ℕ) → (dpWrite r s v) .pipebusy ≡ s .pipebusy
+unfolding startWritten listStarted limitMoved modesWritten flushed
+writes-keep-pipe Start s v = refl
+writes-keep-pipe End s v = end-cases (λ (t : DpState). t .pipebusy ≡ s .pipebusy) s v (λ _ _. refl) (λ _ _. refl) (λ _. refl)
+writes-keep-pipe Status s v = status-cases (λ (t : DpState). t .pipebusy ≡ s .pipebusy) s v (λ _. refl) (λ _ _. refl) (λ _ _. refl)
+writes-keep-pipe Current s v = refl
+writes-keep-pipe Clock s v = refl
+writes-keep-pipe CmdBusy s v = refl
+writes-keep-pipe PipeBusy s v = refl
+writes-keep-pipe TmemBusy s v = refl
+
+-- After a turn that fetched a word it is off exactly if that word was a SYNC_FULL, also where a waiting list starts in this turn
+pub pipe-after : (s : DpState) (w : List ℕ) → fetches s ≡ true → (dpNext s w) .pipebusy ≡ not (syncFull s w)
+unfolding advanced framed listStarted
+pipe-after s w e =
+    rw (next-fetched s w e) (fetched-cases (λ (t : DpState). t .pipebusy ≡ not (syncFull s w)) s w (λ _. refl) (λ _. refl))
+
+pub sync-full-ends-pipe : (s : DpState) (b : ℕ) (v : List ℕ) → s .wordsleft ≡ 0 → b % 64 ≡ 0x29 → fetches s ≡ true
+    → (dpNext s (b ∷ v)) .pipebusy ≡ false
+sync-full-ends-pipe s b v z op e = pipe-after s (b ∷ v) e ∙ ap not (sync-full s b v z op)
+
+-- Every other word turns it on, the first of a command or a later one
+pub other-words-begin-pipe : (s : DpState) (b : ℕ) (v : List ℕ) → (s .wordsleft ≡ 0 → b % 64 ≡ 0x29 → ⊥) → fetches s ≡ true
+    → (dpNext s (b ∷ v)) .pipebusy ≡ true
+other-words-begin-pipe s b v f e = pipe-after s (b ∷ v) e ∙ ap not (no-sync-full s b v f)
 
 -- ---- Ticks and the acknowledge
 
@@ -256,13 +257,12 @@ pub record ListFlushed (s t : DpState) : Type 0 where
   pub startpending : t .startpending ≡ false
   pub endpending : t .endpending ≡ false
   pub wordsleft : t .wordsleft ≡ 0
-  pub pipebusy : t .pipebusy ≡ s .pipebusy
 
 pub flush-written : (s : DpState) (v : ℕ) → setsFlush v ≡ true → ListFlushed s (dpWrite Status s v)
 unfolding modesWritten flushed
 flush-written s v e =
     status-cases (ListFlushed s) s v
-    (λ _. record { current = refl; limit = refl; startpending = refl; endpending = refl; wordsleft = refl; pipebusy = refl })
+    (λ _. record { current = refl; limit = refl; startpending = refl; endpending = refl; wordsleft = refl })
     (λ n _. contradiction e n)
     (λ n _. contradiction e n)
 
@@ -311,7 +311,6 @@ turn-starts-waiting s w h e p last =
       limit = ap (λ (b : Bool). cond b (s .start) (s .end)) (flush-off s h r);
       startpending = refl;
       endpending = refl;
-      pipebusy = refl;
     })
     (λ f. absurd (not-le-of-lt (rw next at (none-follows s f p)) (le-of-eq (sym last)))))
 

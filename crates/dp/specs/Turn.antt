@@ -46,20 +46,24 @@ commandLength op =
     (cond (eqb op 0x24) 2
     (cond (eqb op 0x25) 2 1)))))))))
 
+-- The words left of a command after one more word: one fewer or, where none was left, the rest of the command that the word's opcode begins
+abbrev pub wordsAfter : ℕ → ℕ → ℕ
+wordsAfter left op = cond (eqb left 0) (commandLength op - 1) (left - 1)
+
 -- A word that begins a command of opcode 0x29
 abbrev pub syncFull : DpState → List ℕ → Bool
 syncFull s word = eqb (s .wordsleft) 0 && eqb (opcode word) 0x29
 
--- A word is framed. SYNC_FULL turns PIPE_BUSY off and raises the DP line
+-- A word is framed. Every word turns PIPE_BUSY on; SYNC_FULL then turns it off, and raises the DP line
 unfoldable pub framed : DpState → List ℕ → DpState
 framed s word =
     withCommand s
-    (cond (eqb (s .wordsleft) 0) (commandLength (opcode word) - 1) (s .wordsleft - 1))
-    (s .pipebusy && not (syncFull s word))
+    (wordsAfter (s .wordsleft) (opcode word))
+    (not (syncFull s word))
     (s .line || syncFull s word)
 
 unfoldable pub advanced : DpState → DpState
-advanced s = withList s (ramAdd (s .current) 8) (s .limit) (s .startpending) (s .endpending) (s .pipebusy)
+advanced s = withList s (ramAdd (s .current) 8) (s .limit) (s .startpending) (s .endpending)
 
 -- Where the list has reached its end and another waits, that one starts
 unfoldable pub followed : DpState → DpState

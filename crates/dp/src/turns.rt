@@ -7,7 +7,7 @@ ghost use mathlib.Core.Path.{_≡_};
 ghost use mathlib.Core.List.{_++_};
 ghost use Prim.Native.Nat.{_*_, _/_, _%_, _≤_, min};
 ghost use lib.ListN.{drop};
-ghost use Rattle.dp.specs.Turn.{fetches, nextListWord, commandLength, framed, advanced, followed, dpNext, dpAfter, handedOut, dpTaken, roomFor};
+ghost use Rattle.dp.specs.Turn.{fetches, nextListWord, commandLength, wordsAfter, framed, advanced, followed, dpNext, dpAfter, handedOut, dpTaken, roomFor};
 
 // The words of the commands 0x08 to 0x0F, the triangles.
 const TRIANGLES: [u8; 8] = [4, 6, 12, 14, 12, 14, 20, 22];
@@ -25,6 +25,16 @@ fn command_length(first: u8) -> u8
         return 2;
     }
     1
+}
+
+// The words left of a command after one more word, which begins with a byte.
+fn words_after(left: u8, first: u8) -> u8
+    ensures { λ r. ⌜ r ≡ wordsAfter left (first % 64) ⌝ }
+{
+    if left == 0 {
+        return command_length(first) - 1;
+    }
+    left - 1
 }
 
 // A budget cut to the words that n bytes of output have room for.
@@ -56,22 +66,16 @@ impl DpState {
         load_word(rdram, self.current as usize)
     }
 
-    // A word is framed: it goes on with a command, or begins one.
+    // A word is framed: it goes on with a command, or begins one. PIPE_BUSY and the line come of one value and not of a branch, for speed.
     fn framed(mut self, word: [u8; 8]) -> DpState
         ensures { λ r. ⌜ r ≡ framed self word ⌝ }
     {
         let left = self.wordsleft;
-        if 0 < left {
-            self.wordsleft = left - 1;
-            return self;
-        }
         let first = word[0];
-        self.wordsleft = command_length(first) - 1;
-        if first % 64 == 0x29 {
-            self.pipebusy = false;
-            self.line = true;
-            return self;
-        }
+        let sync = (left == 0) & (first % 64 == 0x29);
+        self.wordsleft = words_after(left, first);
+        self.pipebusy = !sync;
+        self.line = self.line | sync;
         self
     }
 

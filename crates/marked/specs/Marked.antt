@@ -1,4 +1,4 @@
--- The twelve marked examples of paper 01 as one table, and when an example holds: every call answers as the table says.
+-- The twelve marked examples of paper 01, M8 to M10 as request (iii) has them, as one table, and when an example holds: every call answers as the table says.
 use Prim.Native.Nat.{ℕ, zero, suc}
 use mathlib.Core.Bool.{Bool, true, false, _&&_, Bool·beq}
 use mathlib.Core.List.{List, [], _∷_}
@@ -121,13 +121,13 @@ examples =
     -- M7
     ∷ (reads SEMAPHORE 0 ∷ reads SEMAPHORE 1 ∷ write SEMAPHORE 1 ∷ reads SEMAPHORE 0 ∷ [])
     -- M8
-    ∷ (write START 0x2000 ∷ write END 0x2000 ∷ reads DPSTATUS 0xA8 ∷ [])
+    ∷ (write START 0x2000 ∷ write END 0x2000 ∷ reads DPSTATUS 0x80 ∷ [])
     -- M9
-    ∷ (write START 0x2000 ∷ write END 0x2018 ∷ write START 0x3000 ∷ write END 0x3008 ∷ reads DPSTATUS 0x7A8
+    ∷ (write START 0x2000 ∷ write END 0x2018 ∷ write START 0x3000 ∷ write END 0x3008 ∷ reads DPSTATUS 0x780
     ∷ dpGives 0 1 ∷ dpGives 0 1 ∷ dpGives 0 1 ∷ reads CURRENT 0x3000 ∷ reads DPSTATUS 0x1A8 ∷ [])
     -- M10
     ∷ (write DPSTATUS 8 ∷ write START 0x2000 ∷ write END 0x2008 ∷ reads DPSTATUS 0x682
-    ∷ write DPSTATUS 4 ∷ reads DPSTATUS 0x1A8 ∷ [])
+    ∷ write DPSTATUS 4 ∷ reads DPSTATUS 0x180 ∷ [])
     -- M11
     ∷ (puts 0x2000 0xE9 ∷ write START 0x2000 ∷ write END 0x2008 ∷ dpLine false
     ∷ dpGives 0xE900000000000000 1 ∷ dpLine true ∷ reads DPSTATUS 0x80 ∷ [])

@@ -113,15 +113,20 @@ impl Watch {
 
     fn wrote_end(&mut self, before: &State) {
         let (was, is) = (&before.dp, &self.state.dp);
+        let runs = is.current < is.limit;
+        let pipe_off = was.pipebusy == 0;
         let events = &mut self.events;
         if was.startpending == 0 {
             events.see(Event::EndMoved);
-            events.see_if(is.limit <= is.current, Event::EndNotAbove);
+            events.see_if(!runs, Event::EndNotAbove);
+            events.see_if(runs && pipe_off, Event::PipeOffMoved);
         } else if is.endpending == 1 {
             events.see(Event::ListWaits);
         } else {
             events.see(Event::ListBegan);
-            events.see_if(is.current >= is.limit, Event::EmptyList);
+            events.see_if(!runs, Event::EmptyList);
+            events.see_if(pipe_off, Event::PipeOffBegan);
+            events.see_if(!runs && pipe_off, Event::PipeOffEmpty);
             events.see_if(is.flush == 1, Event::ListUnderFlush);
         }
     }
@@ -141,6 +146,7 @@ impl Watch {
         events.see_if(ran && was.xbus != is.xbus, Event::XbusMidList);
         let began = was.endpending == 1 && is.endpending == 0 && is.flush == 0;
         events.see_if(began, Event::WaitingListByWrite);
+        events.see_if(began && was.pipebusy == 0, Event::PipeOffByWrite);
     }
 
     fn tick(&mut self, n: u32) {
@@ -231,8 +237,13 @@ impl Watch {
         } else {
             events.see_if(sync, Event::SyncFullLook);
         }
-        let began = before.endpending == 1 && self.state.dp.endpending == 0;
+        let after = &self.state.dp;
+        events.see_if(before.pipebusy < after.pipebusy, Event::PipeOn);
+        events.see_if(before.pipebusy > after.pipebusy, Event::PipeOff);
+        let began = before.endpending == 1 && after.endpending == 0;
         events.see_if(began, Event::WaitingListByTurn);
+        let synced = before.wordsleft == 0 && sync;
+        events.see_if(began && synced, Event::SyncFullFollowed);
         true
     }
 }

@@ -13,7 +13,7 @@ use compare::totals::{Sum, Totals};
 use compare::traffic::scenes;
 use compare::values::{edge_addresses, not_register, register_value, value_for};
 use model::machine::{DP_STATUS, REGISTERS, SP_STATUS};
-use ofersky::State;
+use ofersky::{Outcome, State};
 
 /// What the eight tests compared.
 static ALL: Sum = Sum::of_tests(8);
@@ -50,7 +50,9 @@ fn registers() {
             comparison.check(&plain(state, Call::Read { address }));
             for _ in 0..3 {
                 let value = value_for(&mut random, address, rdram);
-                comparison.check(&plain(state, Call::Write { address, value }));
+                let seen = comparison.check(&plain(state, Call::Write { address, value }));
+                // No write changes it, whatever list starts or ends.
+                assert_eq!(seen.outcome.state.dp.pipebusy, state.dp.pipebusy);
             }
         }
     }
@@ -115,12 +117,42 @@ fn addresses_beside_the_registers() {
     done("addresses beside the registers", &comparison.totals);
 }
 
+/// The words that DP turns handed out.
+struct Words {
+    handed: u32,
+    /// Those that begin a command, by opcode.
+    framed: [u32; 64],
+    /// By PIPE_BUSY before them: first and later ones of a command, and SYNC_FULL.
+    pipe: [[u32; 3]; 2],
+}
+
+impl Words {
+    /// Counts the word of a turn. PIPE_BUSY is on after it, unless it is a SYNC_FULL.
+    fn see(&mut self, before: &State, outcome: &Outcome) {
+        let opcode = (outcome.answer.value >> 56) as usize % 64;
+        let begins = before.dp.wordsleft == 0;
+        let kind = match (begins, opcode) {
+            (false, _) => 1,
+            (true, 0x29) => 2,
+            (true, _) => 0,
+        };
+        self.handed += 1;
+        self.framed[opcode] += u32::from(begins);
+        self.pipe[before.dp.pipebusy as usize][kind] += 1;
+        assert_eq!(outcome.state.dp.pipebusy, u8::from(kind != 2));
+    }
+}
+
 #[test]
 fn turns_runs_and_looks() {
     let mut random = Random::of_test(24);
     let mut comparison = Comparison::new("call");
-    let [mut moved, mut handed, mut found] = [0; 3];
-    let mut framed = [0; 64];
+    let [mut moved, mut found] = [0; 2];
+    let mut words = Words {
+        handed: 0,
+        framed: [0; 64],
+        pipe: [[0; 3]; 2],
+    };
     for _ in 0..14_000 {
         let lent = good_lengths(&mut random);
         let state = sound(&mut random, lent.rdram);
@@ -130,17 +162,15 @@ fn turns_runs_and_looks() {
             let seen = comparison.check(&case);
             match case.call {
                 Call::SpTurn => moved += seen.outcome.answer.count,
-                Call::DpTurn if seen.outcome.answer.count == 1 => {
-                    handed += 1;
-                    let opcode = (seen.outcome.answer.value >> 56) as usize % 64;
-                    framed[opcode] += u32::from(state.dp.wordsleft == 0);
-                }
+                Call::DpTurn if seen.outcome.answer.count == 1 => words.see(&state, &seen.outcome),
                 Call::Look => found += seen.part.length / 8,
                 _ => {}
             }
         }
     }
+    let (handed, framed, pipe) = (words.handed, &words.framed, &words.pipe);
     assert!(framed.iter().all(|seen| *seen >= 3), "{framed:?}");
+    assert!(pipe.iter().flatten().all(|seen| *seen >= 3), "{pipe:?}");
     assert!(moved >= 3_000 && handed >= 3_000 && found >= 2_000);
     println!("turns, runs and looks: {moved} SP turns moved a word, {handed} DP turns handed one out, {found} looks found one");
     done("turns, runs and looks", &comparison.totals);

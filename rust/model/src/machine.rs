@@ -119,6 +119,7 @@ pub struct Dp {
     pub xbus: bool,
     pub freeze: bool,
     pub flush: bool,
+    /// On from the first word fetched until a SYNC_FULL.
     pub pipe_busy: bool,
     /// Words of the present command that are still to come.
     pub words_left: u32,
@@ -308,13 +309,13 @@ impl Dp {
         self.limit = if self.flush { self.current } else { limit };
     }
 
-    /// Starts the list that START and END name, even an empty one.
+    /// Starts the list that START and END name, even an empty one. PIPE_BUSY
+    /// stays as it is, for nothing of the list has been fetched yet.
     fn start_list(&mut self) {
         self.current = self.start;
         self.set_limit(self.end);
         self.start_pending = false;
         self.end_pending = false;
-        self.pipe_busy = true;
     }
 
     fn write_start(&mut self, value: u32) {
@@ -326,9 +327,6 @@ impl Dp {
         self.end = value & ADDRESS_BITS;
         if !self.start_pending {
             self.set_limit(self.end);
-            if self.runs() {
-                self.pipe_busy = true;
-            }
         } else if self.runs() || self.freeze {
             self.end_pending = true;
         } else {
@@ -384,8 +382,10 @@ impl Dp {
 
     /// Takes a word into the command it belongs to. Only the first word of a
     /// command has an opcode: its first byte, of which the top two bits are
-    /// not looked at.
+    /// not looked at. PIPE_BUSY changes here and nowhere else: every word sets
+    /// it, whichever word of its command it is, and a SYNC_FULL then clears it.
     fn frame(&mut self, word: u64) {
+        self.pipe_busy = true;
         if self.words_left > 0 {
             self.words_left -= 1;
             return;

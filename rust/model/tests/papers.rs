@@ -124,7 +124,7 @@ fn m7_semaphore() {
 fn m8_an_empty_list() {
     let mut machine = power_up();
     writes(&mut machine, &[(DP_START, 0x2000), (DP_END, 0x2000)]);
-    assert_eq!(reads(&mut machine, DP_STATUS), 0xA8);
+    assert_eq!(reads(&mut machine, DP_STATUS), 0x80);
 }
 
 #[test]
@@ -132,7 +132,7 @@ fn m9_a_waiting_list() {
     let mut machine = power_up();
     writes(&mut machine, &[(DP_START, 0x2000), (DP_END, 0x2018)]);
     writes(&mut machine, &[(DP_START, 0x3000), (DP_END, 0x3008)]);
-    assert_eq!(reads(&mut machine, DP_STATUS), 0x7A8);
+    assert_eq!(reads(&mut machine, DP_STATUS), 0x780);
     dp_turns(&mut machine, 3);
     assert_eq!(reads(&mut machine, DP_CURRENT), 0x3000);
     assert_eq!(reads(&mut machine, DP_STATUS), 0x1A8);
@@ -146,7 +146,7 @@ fn m10_freeze() {
     assert_eq!(reads(&mut machine, DP_STATUS), 0x682);
     assert_eq!(machine.dp_turn(), None);
     writes(&mut machine, &[(DP_STATUS, 4)]);
-    assert_eq!(reads(&mut machine, DP_STATUS), 0x1A8);
+    assert_eq!(reads(&mut machine, DP_STATUS), 0x180);
 }
 
 #[test]

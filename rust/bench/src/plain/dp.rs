@@ -51,11 +51,11 @@ impl Dp {
         self.limit = if self.flush { self.start } else { self.end };
         self.startpending = false;
         self.endpending = false;
-        self.pipebusy = true;
     }
 
     #[inline]
     fn frame(&mut self, op: u8) {
+        self.pipebusy = true;
         if self.wordsleft > 0 {
             self.wordsleft -= 1;
             return;

@@ -84,7 +84,6 @@ impl Dp {
         self.end = v & 0xFF_FFF8;
         if !self.startpending {
             self.limit = if self.flush { self.current } else { self.end };
-            self.pipebusy |= self.runs();
         } else if self.runs() || self.freeze {
             self.endpending = true;
         } else {

@@ -619,7 +619,7 @@ impl Generator {
         self.put(Record::Acknowledge);
         self.read(DP_STATUS);
         self.dp_run(ALL);
-        // More by END alone: PIPE_BUSY comes on again.
+        // More by END alone: PIPE_BUSY comes on again with the word fetched.
         let end = self.machine.dp.current + 8;
         self.write(DP_END, end);
         self.read(DP_STATUS);

@@ -362,3 +362,36 @@ pub fn expect_replay(bench: &Bench, recording: &[u8], number: u32) {
     assert_eq!(listing, format!("replay 1\nstop 0 {number} 0\n"));
     assert!(tried == *bench);
 }
+
+/// A xorshift generator of random numbers.
+pub struct Random(pub u64);
+
+impl Random {
+    pub fn number(&mut self) -> u32 {
+        self.0 ^= self.0 << 13;
+        self.0 ^= self.0 >> 7;
+        self.0 ^= self.0 << 17;
+        (self.0.wrapping_mul(0x2545_F491_4F6C_DD1D) >> 32) as u32
+    }
+
+    /// A sound state; numbers are often at the edge of their field.
+    pub fn sound_state(&mut self) -> State {
+        loop {
+            let mut state = power_up();
+            for (_, field) in FLAGS {
+                *field(&mut state) = self.number() as u8 & 1;
+            }
+            for (_, field, widest, _) in NUMBERS {
+                *field(&mut state) = match self.number() % 8 {
+                    0 => widest,
+                    1 => 0,
+                    _ => self.number() & widest,
+                };
+            }
+            state.dp.wordsleft = (self.number() % 22) as u8;
+            if is_sound(&state) {
+                return state;
+            }
+        }
+    }
+}

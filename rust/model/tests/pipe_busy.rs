@@ -1,0 +1,502 @@
+//! PIPE_BUSY: every word fetched sets it, a SYNC_FULL then clears it, and
+//! nothing else changes it. STATUS shows it in bits 3 and 5, and its counter
+//! counts while it is on.
+
+mod common;
+
+use common::*;
+use model::calls::*;
+use model::machine::{DP_CLOCK, DP_CURRENT, DP_END, DP_PIPE_BUSY, DP_START, DP_STATUS, REGISTERS};
+
+/// Power-up but for PIPE_BUSY, over words from 0x2000 on that begin with these
+/// bytes.
+fn with_words(pipebusy: u8, first_bytes: &[u8]) -> Bench {
+    let mut bench = Bench::new();
+    bench.state.dp.pipebusy = pipebusy;
+    for (i, byte) in first_bytes.iter().enumerate() {
+        bench.rdram[0x2000 + 8 * i] = *byte;
+    }
+    bench
+}
+
+/// The same, with a list begun over these words.
+fn begun(pipebusy: u8, first_bytes: &[u8]) -> Bench {
+    let mut bench = with_words(pipebusy, first_bytes);
+    let end = 0x2000 + 8 * first_bytes.len() as u32;
+    bench.writes(&[(DP_START, 0x2000), (DP_END, end)]);
+    bench
+}
+
+/// PIPE_BUSY is this, in the state and in bits 3 and 5 of STATUS. The other
+/// bits of STATUS are those of `others`.
+fn expect_status(bench: &mut Bench, others: u32, pipebusy: u8) {
+    assert_eq!(bench.state.dp.pipebusy, pipebusy);
+    let both_bits = if pipebusy == 1 { 0x28 } else { 0 };
+    bench.reads(&[(DP_STATUS, others | both_bits)]);
+}
+
+/// A turn that fetches a word, and what it leaves.
+fn fetches(bench: &mut Bench, others: u32, pipebusy: u8) {
+    assert_eq!(bench.dp_turn().count, 1);
+    expect_status(bench, others, pipebusy);
+}
+
+/// The whole rule: what a word leaves of PIPE_BUSY, whatever it was before.
+fn after_word(wordsleft: u8, first_byte: u8) -> u8 {
+    let sync_full = wordsleft == 0 && first_byte % 64 == 0x29;
+    u8::from(!sync_full)
+}
+
+#[test]
+fn an_empty_list_leaves_it_as_it_was() {
+    for pipebusy in [0, 1] {
+        for end in [0x2000, 0x1FF8, 0] {
+            let mut bench = with_words(pipebusy, &[]);
+            bench.writes(&[(DP_START, 0x2000), (DP_END, end)]);
+            expect_status(&mut bench, 0x80, pipebusy);
+            assert_eq!(bench.dp_turn(), success(0, 0));
+            expect_status(&mut bench, 0x80, pipebusy);
+        }
+    }
+}
+
+#[test]
+fn an_end_write_that_starts_a_list_leaves_it_as_it_was() {
+    for pipebusy in [0, 1] {
+        let mut bench = with_words(pipebusy, &[]);
+        bench.writes(&[(DP_START, 0x2000)]);
+        expect_status(&mut bench, 0x480, pipebusy);
+        bench.writes(&[(DP_END, 0x2010)]);
+        expect_status(&mut bench, 0x180, pipebusy);
+        fetches(&mut bench, 0x180, 1);
+        fetches(&mut bench, 0x80, 1);
+    }
+}
+
+#[test]
+fn a_status_write_that_starts_the_waiting_list_leaves_it_as_it_was() {
+    for pipebusy in [0, 1] {
+        for (end, started) in [(0x2008, 0x180), (0x2000, 0x80), (0x1000, 0x80)] {
+            let mut bench = with_words(pipebusy, &[]);
+            bench.writes(&[(DP_STATUS, 8), (DP_START, 0x2000), (DP_END, end)]);
+            expect_status(&mut bench, 0x682, pipebusy);
+            bench.writes(&[(DP_STATUS, 4)]);
+            expect_status(&mut bench, started, pipebusy);
+            bench.reads(&[(DP_CURRENT, 0x2000)]);
+        }
+    }
+}
+
+/// The waiting list starts in the turn of a word, and the word alone decides.
+#[test]
+fn a_turn_that_starts_the_waiting_list_goes_by_its_word() {
+    for pipebusy in [0, 1] {
+        for (end, started) in [(0x3008, 0x180), (0x3000, 0x80), (0x1000, 0x80)] {
+            for (byte, after) in [(0x00, 1), (0x27, 1), (0x29, 0), (0xE9, 0)] {
+                let mut bench = begun(pipebusy, &[byte]);
+                bench.writes(&[(DP_START, 0x3000), (DP_END, end)]);
+                expect_status(&mut bench, 0x780, pipebusy);
+                fetches(&mut bench, started, after);
+                bench.reads(&[(DP_CURRENT, 0x3000)]);
+                bench.lines(0, 1 - after);
+            }
+        }
+    }
+}
+
+#[test]
+fn moving_end_leaves_it_as_it_was() {
+    for pipebusy in [0, 1] {
+        let mut bench = with_words(pipebusy, &[]);
+        bench.writes(&[(DP_START, 0x2000), (DP_END, 0x2000)]);
+        // Onto a list, further, back, to CURRENT, below it and on again.
+        let ends = [
+            (0x2008, 0x180),
+            (0x2020, 0x180),
+            (0x2010, 0x180),
+            (0x2000, 0x80),
+            (0x1FF8, 0x80),
+            (0x2010, 0x180),
+        ];
+        for (end, others) in ends {
+            bench.writes(&[(DP_END, end)]);
+            expect_status(&mut bench, others, pipebusy);
+            bench.writes(&[(DP_STATUS, 8), (DP_END, end)]);
+            expect_status(&mut bench, others | 2, pipebusy);
+            bench.writes(&[(DP_STATUS, 4)]);
+            expect_status(&mut bench, others, pipebusy);
+        }
+        fetches(&mut bench, 0x180, 1);
+        bench.writes(&[(DP_END, 0x2008)]);
+        expect_status(&mut bench, 0x80, 1);
+    }
+}
+
+/// Commands of every length; each word after the first looks like a SYNC_FULL.
+#[test]
+fn each_word_of_a_command_sets_it() {
+    let lengths = [
+        (0x00, 1),
+        (0x24, 2),
+        (0x08, 4),
+        (0x09, 6),
+        (0x0A, 12),
+        (0x0B, 14),
+        (0x0E, 20),
+        (0x0F, 22),
+    ];
+    for (opcode, length) in lengths {
+        for pipebusy in [0, 1] {
+            let mut bytes = vec![0xE9; length];
+            bytes[0] = opcode;
+            let mut bench = begun(0, &bytes);
+            for left in (0..length).rev() {
+                // It may be off within a command too: such a state is sound.
+                bench.state.dp.pipebusy = pipebusy;
+                let others = if left > 0 { 0x1C0 } else { 0x80 };
+                fetches(&mut bench, others, 1);
+                assert_eq!(usize::from(bench.state.dp.wordsleft), left);
+            }
+            bench.lines(0, 0);
+        }
+    }
+}
+
+/// Every first byte as the first word of a command, and with every number of
+/// words left. Nothing of the state but what the rules name is changed.
+#[test]
+fn every_first_byte_sets_it_but_for_a_sync_full() {
+    let mut bench = Bench::new();
+    for (wordsleft, byte) in (0..=21).flat_map(|left| (0..=255).map(move |byte| (left, byte))) {
+        for pipebusy in [0, 1] {
+            bench.rdram[0x2000] = byte;
+            bench.state = power_up();
+            bench.state.dp.current = 0x2000;
+            bench.state.dp.limit = 0x2010;
+            bench.state.dp.wordsleft = wordsleft;
+            bench.state.dp.pipebusy = pipebusy;
+            let mut after = bench.state;
+            assert_eq!(bench.dp_turn(), success(u64::from(byte) << 56, 1));
+            after.dp.current = 0x2008;
+            after.dp.pipebusy = after_word(wordsleft, byte);
+            after.dp.line = 1 - after.dp.pipebusy;
+            after.dp.wordsleft = match (wordsleft, byte % 64) {
+                (0, 0x08) => 3,
+                (0, 0x09) => 5,
+                (0, 0x0A | 0x0C) => 11,
+                (0, 0x0B | 0x0D) => 13,
+                (0, 0x0E) => 19,
+                (0, 0x0F) => 21,
+                (0, 0x24 | 0x25) => 1,
+                _ => wordsleft.saturating_sub(1),
+            };
+            assert_eq!(bench.state, after, "{wordsleft} {byte:02X} {pipebusy}");
+        }
+    }
+}
+
+/// SYNC_FULLs in the midst of a list and at its end, the line up or not; one
+/// that is only the second word of a command; and more of it by END alone.
+#[test]
+fn a_word_after_sync_full_sets_it_again() {
+    for pipebusy in [0, 1] {
+        let bytes = [0x27, 0x29, 0x27, 0xE9, 0x29, 0x24];
+        let mut bench = begun(pipebusy, &bytes);
+        bench.rdram[0x2030] = 0x29;
+        bench.rdram[0x2038] = 0x69;
+        for after in [1, 0, 1, 0, 0] {
+            fetches(&mut bench, 0x180, after);
+        }
+        fetches(&mut bench, 0xC0, 1);
+        bench.writes(&[(DP_END, 0x2040)]);
+        expect_status(&mut bench, 0x1C0, 1);
+        fetches(&mut bench, 0x180, 1);
+        fetches(&mut bench, 0x80, 0);
+        bench.writes(&[(DP_END, 0x2048)]);
+        expect_status(&mut bench, 0x180, 0);
+        fetches(&mut bench, 0x80, 1);
+    }
+}
+
+/// A list waits all the while, and does not start with the SYNC_FULL's turn.
+#[test]
+fn sync_full_clears_it_though_a_list_waits() {
+    for pipebusy in [0, 1] {
+        let mut bench = begun(pipebusy, &[0x29, 0x27, 0xA9, 0x00]);
+        bench.writes(&[(DP_START, 0x3000), (DP_END, 0x3008)]);
+        expect_status(&mut bench, 0x780, pipebusy);
+        for after in [0, 1, 0] {
+            fetches(&mut bench, 0x780, after);
+        }
+        fetches(&mut bench, 0x180, 1);
+        fetches(&mut bench, 0x80, 1);
+        bench.lines(0, 1);
+    }
+}
+
+/// With XBUS it is DMEM's word that counts, and a word past the lent length
+/// is one of zeros.
+#[test]
+fn words_from_dmem_and_past_the_lent_length_set_it() {
+    let mut bench = Bench::new();
+    bench.dmem[0xFF8] = 0x27;
+    bench.dmem[0] = 0x29;
+    bench.rdram[0x5FF8] = 0x29;
+    bench.rdram[0x6000] = 0x27;
+    bench.writes(&[(DP_STATUS, 2), (DP_START, 0x5FF8), (DP_END, 0x6008)]);
+    expect_status(&mut bench, 0x181, 0);
+    fetches(&mut bench, 0x181, 1);
+    fetches(&mut bench, 0x81, 0);
+
+    bench.rdram[0xFFF8] = 0x29;
+    bench.rdram[0] = 0x29;
+    bench.writes(&[(DP_STATUS, 1), (DP_START, 0xFFF8), (DP_END, 0x1_0010)]);
+    fetches(&mut bench, 0x180, 0);
+    fetches(&mut bench, 0x180, 1);
+    bench.state.dp.pipebusy = 0;
+    bench.state.dp.wordsleft = 2;
+    fetches(&mut bench, 0xC0, 1);
+}
+
+#[test]
+fn a_turn_that_fetches_nothing_leaves_it_as_it_was() {
+    let stopped = [
+        (0x2000, 0, 0),
+        (0x1FF8, 0, 0),
+        (0x2000, 0, 1),
+        (0x2000, 1, 0),
+        (0x2010, 1, 0),
+    ];
+    for (limit, freeze, flush) in stopped {
+        for (pipebusy, wordsleft, byte) in [(0, 0, 0x27), (1, 0, 0x29), (0, 5, 0), (1, 5, 0)] {
+            let mut bench = with_words(pipebusy, &[byte, byte]);
+            bench.state.dp.current = 0x2000;
+            bench.state.dp.limit = limit;
+            bench.state.dp.freeze = freeze;
+            bench.state.dp.flush = flush;
+            bench.state.dp.wordsleft = wordsleft;
+            let before = bench.clone();
+            assert_eq!(bench.dp_turn(), success(0, 0));
+            assert!(bench == before);
+            assert_eq!(bench.dp_run(u32::MAX, &mut [0; 64]), success(0, 0));
+            assert!(bench == before);
+        }
+    }
+}
+
+/// A run ends by its budget or by the room, and its last word decides.
+#[test]
+fn a_run_leaves_what_its_last_word_left() {
+    let bytes = [0x27, 0x29, 0x27, 0x24, 0x29, 0xE9];
+    for pipebusy in [0, 1] {
+        let after = [pipebusy, 1, 0, 1, 1, 1, 0];
+        for (words, after) in after.into_iter().enumerate() {
+            let count = words as u32;
+            let mut bench = begun(pipebusy, &bytes);
+            let mut cramped = bench.clone();
+            assert_eq!(bench.dp_run(count, &mut [0; 64]), success(0, count));
+            assert_eq!(bench.state.dp.pipebusy, after, "{words}");
+            let mut room = vec![0; 8 * words + 7];
+            assert_eq!(cramped.dp_run(u32::MAX, &mut room), success(0, count));
+            assert_eq!(cramped.state.dp.pipebusy, after, "{words}");
+        }
+    }
+}
+
+/// Within a command or not, with a list running, waiting or neither.
+#[test]
+fn flush_leaves_it_as_it_was() {
+    for pipebusy in [0, 1] {
+        for (limit, wordsleft) in [(0x2010, 0), (0x2010, 3), (0x2000, 0), (0x2000, 3)] {
+            let mut bench = with_words(pipebusy, &[]);
+            bench.state.dp.current = 0x2000;
+            bench.state.dp.limit = limit;
+            bench.state.dp.wordsleft = wordsleft;
+            bench.writes(&[(DP_STATUS, 8), (DP_START, 0x4000), (DP_END, 0x4008)]);
+            bench.writes(&[(DP_STATUS, 0x24)]);
+            expect_status(&mut bench, 0x84, pipebusy);
+            // Under FLUSH, a list and an END alone leave nothing running.
+            bench.writes(&[(DP_START, 0x3000), (DP_END, 0x3010)]);
+            expect_status(&mut bench, 0x84, pipebusy);
+            bench.writes(&[(DP_END, 0x3020)]);
+            expect_status(&mut bench, 0x84, pipebusy);
+            bench.writes(&[(DP_STATUS, 0x10)]);
+            expect_status(&mut bench, 0x80, pipebusy);
+        }
+    }
+}
+
+/// Every STATUS write, also those that zero counters, freeze, flush or start
+/// the waiting list.
+#[test]
+fn a_status_write_leaves_it_as_it_was() {
+    for value in 0..0x400 {
+        for (pipebusy, freeze) in [(0, 0), (0, 1), (1, 0), (1, 1)] {
+            for (limit, endpending) in [(0x98, 0), (0x90, 0), (0xA0, 1), (0x90, freeze)] {
+                let mut state = full_state();
+                state.dp.limit = limit;
+                state.dp.endpending = endpending;
+                state.dp.freeze = freeze;
+                state.dp.pipebusy = pipebusy;
+                let outcome = write_register(&state, DP_STATUS, value);
+                assert_eq!(outcome.answer, success(0, 0));
+                assert_eq!(outcome.state.dp.pipebusy, pipebusy, "{value:03X}");
+            }
+        }
+    }
+}
+
+#[test]
+fn an_acknowledge_leaves_it_as_it_was() {
+    let mut bench = begun(0, &[0x29, 0x27]);
+    for after in [0, 1] {
+        assert_eq!(bench.dp_turn().count, 1);
+        bench.lines(0, 1);
+        let outcome = acknowledge(&bench.state);
+        assert_eq!(outcome.answer, success(0, 0));
+        let dp = outcome.state.dp;
+        assert_eq!((dp.line, dp.pipebusy), (0, after));
+    }
+}
+
+/// A tick, and what the counter then reads as.
+fn ticks(bench: &mut Bench, n: u32, counted: u32) {
+    let outcome = tick(&bench.state, n);
+    bench.took(outcome, success(0, 0));
+    bench.reads(&[(DP_PIPE_BUSY, counted)]);
+}
+
+/// Each tick is a power of two, so that the sum tells which were counted.
+#[test]
+fn the_counter_counts_from_the_first_word_until_sync_full() {
+    let mut bench = with_words(0, &[0x27, 0x24, 0x29, 0x29, 0x27]);
+    ticks(&mut bench, 0x01, 0);
+    bench.writes(&[(DP_START, 0x2000), (DP_END, 0x2000)]);
+    ticks(&mut bench, 0x02, 0);
+    bench.writes(&[(DP_END, 0x2020)]);
+    ticks(&mut bench, 0x04, 0);
+    // A word; the first and the second of a command, which is no SYNC_FULL.
+    for (n, counted) in [(0x08, 0x08), (0x10, 0x18), (0x20, 0x38)] {
+        assert_eq!(bench.dp_turn().count, 1);
+        ticks(&mut bench, n, counted);
+    }
+    bench.writes(&[(DP_STATUS, 8)]);
+    assert_eq!(bench.dp_turn().count, 0);
+    ticks(&mut bench, 0x40, 0x78);
+    bench.writes(&[(DP_STATUS, 4)]);
+    assert_eq!(bench.dp_turn(), success(0x29 << 56, 1));
+    ticks(&mut bench, 0x80, 0x78);
+    bench.writes(&[(DP_END, 0x2028)]);
+    ticks(&mut bench, 0x100, 0x78);
+    assert_eq!(bench.dp_turn(), success(0x27 << 56, 1));
+    ticks(&mut bench, 0x200, 0x278);
+    bench.writes(&[(DP_STATUS, 0x20)]);
+    ticks(&mut bench, 0x400, 0x678);
+    // To zero the counter does not stop it.
+    bench.writes(&[(DP_STATUS, 0x80)]);
+    bench.reads(&[(DP_PIPE_BUSY, 0)]);
+    ticks(&mut bench, 0x800, 0x800);
+    bench.reads(&[(DP_CLOCK, 0xFFF)]);
+}
+
+/// A write (1) or a read (2) as bytes.
+fn record(kind: u8, address: u32, value: u32) -> Vec<u8> {
+    [&[kind], &address.to_be_bytes()[..], &value.to_be_bytes()].concat()
+}
+
+#[test]
+fn a_recording_shows_it() {
+    let run = vec![4, 0, 0, 0, 1];
+    let records = [
+        record(1, DP_START, 0x2000),
+        record(1, DP_END, 0x2000),
+        record(2, DP_STATUS, 0x80),
+        record(1, DP_END, 0x2010),
+        record(2, DP_STATUS, 0x180),
+        run.clone(),
+        record(2, DP_STATUS, 0x1A8),
+        vec![5, 0, 0, 0, 3],
+        run,
+        record(2, DP_STATUS, 0x80),
+        vec![5, 0, 0, 0, 4],
+        record(2, DP_PIPE_BUSY, 3),
+    ];
+    let mut bench = with_words(0, &[0x27, 0xE9]);
+    let (state, listing) = bench.replay_to_end(&records.concat(), 12);
+    let expected = "replay 1\nR 0410000C 00000080 ok\nR 0410000C 00000180 ok\n\
+        D 00000001\nR 0410000C 000001A8 ok\nD 00000001\nR 0410000C 00000080 ok\n\
+        R 04100018 00000003 ok\nend 12\n";
+    assert_eq!(listing, expected);
+    assert_eq!((state.dp.pipebusy, state.dp.line), (0, 1));
+}
+
+/// Words left above 0 with PIPE_BUSY off is sound: words set it, and no clause
+/// joins the two.
+#[test]
+fn it_may_be_off_within_a_command() {
+    for wordsleft in 0..=21 {
+        for pipebusy in [0, 1] {
+            let mut state = power_up();
+            state.dp.wordsleft = wordsleft;
+            state.dp.pipebusy = pipebusy;
+            assert!(is_sound(&state));
+            assert_eq!(tick(&state, 0).state, state);
+        }
+    }
+}
+
+/// A declined turn or run gives the flag back as it was, like all else.
+#[test]
+fn a_declined_turn_leaves_it_as_it_was() {
+    for pipebusy in [0, 1] {
+        let mut bench = Bench::running();
+        bench.state.dp.pipebusy = pipebusy;
+        bench.dmem.pop();
+        expect_numbers(&bench, 2, 2);
+        bench.rdram.pop();
+        expect_numbers(&bench, 1, 1);
+    }
+}
+
+/// Any sound state and any call. Half of the words begin like a SYNC_FULL.
+#[test]
+fn only_a_fetched_word_changes_it() {
+    let mut random = Random(0x0F1E_2D3C_4B5A_6979);
+    let mut bench = Bench::running();
+    for _ in 0..4_000 {
+        let mut state = random.sound_state();
+        let value = random.number();
+        state.dp.wordsleft *= value as u8 & 1;
+        let mut outcomes = vec![tick(&state, value), sp_break(&state), acknowledge(&state)];
+        for address in REGISTERS {
+            outcomes.push(read_register(&state, address));
+            outcomes.push(write_register(&state, address, value));
+        }
+        for outcome in outcomes {
+            assert_eq!(outcome.answer.number, 0);
+            assert_eq!(outcome.state.dp.pipebusy, state.dp.pipebusy);
+        }
+        bench.state = state;
+        assert_eq!(bench.sp_run(value % 64).number, 0);
+        assert_eq!(bench.state.dp.pipebusy, state.dp.pipebusy);
+
+        bench.state = state;
+        plant(&mut bench, value);
+        let turn = bench.dp_turn();
+        let expected = match turn.count {
+            1 => after_word(state.dp.wordsleft, (turn.value >> 56) as u8),
+            _ => state.dp.pipebusy,
+        };
+        assert_eq!(bench.state.dp.pipebusy, expected);
+    }
+}
+
+/// Puts the first byte of a SYNC_FULL where the next word stands, for one
+/// value in two.
+fn plant(bench: &mut Bench, value: u32) {
+    let look = bench.look();
+    if look.length == 8 && value & 2 == 0 {
+        let memories = [&mut bench.rdram, &mut bench.dmem];
+        memories[look.memory as usize][look.offset as usize] = value as u8 & 0xC0 | 0x29;
+    }
+}
