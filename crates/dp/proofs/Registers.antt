@@ -112,6 +112,7 @@ pub first-byte-mod-64 : (s : DpState) (b c : ℕ) (v w : List ℕ) → b % 64 �
 unfolding dpNext framed
 first-byte-mod-64 s b c v w e = rw e
 
+-- The words left of a command after a turn that fetched a word
 pub words-after : (s : DpState) (w : List ℕ) → fetches s ≡ true
     → (dpNext s w) .wordsleft ≡ wordsAfter (s .wordsleft) (opcode w)
 unfolding advanced framed listStarted
