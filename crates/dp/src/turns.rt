@@ -7,32 +7,44 @@ ghost use mathlib.Core.Path.{_≡_};
 ghost use mathlib.Core.List.{_++_};
 ghost use Prim.Native.Nat.{_*_, _/_, _%_, _≤_, min};
 ghost use lib.ListN.{drop};
-ghost use Rattle.dp.specs.Turn.{fetches, nextListWord, commandLength, wordsAfter, framed, advanced, followed, dpNext, dpAfter, handedOut, dpTaken, roomFor};
+ghost use Rattle.dp.specs.Turn.{fetches, nextListWord, commandLength, LengthTable, wordsAfter, framed, advanced, followed, dpNext, dpAfter, handedOut, dpTaken, roomFor};
 
-// The words of the commands 0x08 to 0x0F, the triangles.
-const TRIANGLES: [u8; 8] = [4, 6, 12, 14, 12, 14, 20, 22];
+// The words of the command that begins with each byte, sixteen bytes to a line. Bits 7 and 6 of the byte do not count, so the four quarters are alike.
+const LENGTHS: [u8; 256] = *b"\
+    \x01\x01\x01\x01\x01\x01\x01\x01\x04\x06\x0C\x0E\x0C\x0E\x14\x16\
+    \x01\x01\x01\x01\x01\x01\x01\x01\x01\x01\x01\x01\x01\x01\x01\x01\
+    \x01\x01\x01\x01\x02\x02\x01\x01\x01\x01\x01\x01\x01\x01\x01\x01\
+    \x01\x01\x01\x01\x01\x01\x01\x01\x01\x01\x01\x01\x01\x01\x01\x01\
+    \x01\x01\x01\x01\x01\x01\x01\x01\x04\x06\x0C\x0E\x0C\x0E\x14\x16\
+    \x01\x01\x01\x01\x01\x01\x01\x01\x01\x01\x01\x01\x01\x01\x01\x01\
+    \x01\x01\x01\x01\x02\x02\x01\x01\x01\x01\x01\x01\x01\x01\x01\x01\
+    \x01\x01\x01\x01\x01\x01\x01\x01\x01\x01\x01\x01\x01\x01\x01\x01\
+    \x01\x01\x01\x01\x01\x01\x01\x01\x04\x06\x0C\x0E\x0C\x0E\x14\x16\
+    \x01\x01\x01\x01\x01\x01\x01\x01\x01\x01\x01\x01\x01\x01\x01\x01\
+    \x01\x01\x01\x01\x02\x02\x01\x01\x01\x01\x01\x01\x01\x01\x01\x01\
+    \x01\x01\x01\x01\x01\x01\x01\x01\x01\x01\x01\x01\x01\x01\x01\x01\
+    \x01\x01\x01\x01\x01\x01\x01\x01\x04\x06\x0C\x0E\x0C\x0E\x14\x16\
+    \x01\x01\x01\x01\x01\x01\x01\x01\x01\x01\x01\x01\x01\x01\x01\x01\
+    \x01\x01\x01\x01\x02\x02\x01\x01\x01\x01\x01\x01\x01\x01\x01\x01\
+    \x01\x01\x01\x01\x01\x01\x01\x01\x01\x01\x01\x01\x01\x01\x01\x01";
 
-// The words of the command that begins with a byte. The table is short because the compiled code makes it anew at each use.
-fn command_length(first: u8) -> u8
+// The words of the command that begins with a byte. The table is lent, because the compiled code makes a constant anew wherever it is borrowed.
+fn command_length(first: u8, lengths: &[u8; 256]) -> u8
+    requires { ⌜ LengthTable (now lengths) ⌝ }
     ensures { λ r. ⌜ (r ≡ commandLength (first % 64)) × (1 ≤ r) ⌝ }
 {
-    let op = first % 64;
-    if op / 8 == 1 {
-        let i = (op % 8) as usize;
-        return TRIANGLES[i];
-    }
-    if op / 2 == 0x12 {
-        return 2;
-    }
-    1
+    let i = first as usize;
+    lengths[i]
 }
 
-// The words left of a command after one more word, which begins with a byte.
-fn words_after(left: u8, first: u8) -> u8
-    ensures { λ r. ⌜ r ≡ wordsAfter left (first % 64) ⌝ }
+// The words left of a command after one more word; where none was left, the word begins a command of this length. The length is looked up before, for
+// every word, so that this is a choice of two values: a branch here slows long lists of mixed commands.
+fn words_after(left: u8, length: u8) -> u8
+    requires { ⌜ 1 ≤ length ⌝ }
+    ensures { λ r. ⌜ r ≡ wordsAfter left length ⌝ }
 {
     if left == 0 {
-        return command_length(first) - 1;
+        return length - 1;
     }
     left - 1
 }
@@ -67,13 +79,14 @@ impl DpState {
     }
 
     // A word is framed: it goes on with a command, or begins one. PIPE_BUSY and the line come of one value and not of a branch, for speed.
-    fn framed(mut self, word: [u8; 8]) -> DpState
+    fn framed(mut self, word: [u8; 8], lengths: &[u8; 256]) -> DpState
+        requires { ⌜ LengthTable (now lengths) ⌝ }
         ensures { λ r. ⌜ r ≡ framed self word ⌝ }
     {
         let left = self.wordsleft;
         let first = word[0];
         let sync = (left == 0) & (first % 64 == 0x29);
-        self.wordsleft = words_after(left, first);
+        self.wordsleft = words_after(left, command_length(first, lengths));
         self.pipebusy = !sync;
         self.line = self.line | sync;
         self
@@ -100,16 +113,18 @@ impl DpState {
     }
 
     // The registers after one turn over the word that it fetches.
-    pub fn next(mut self, word: [u8; 8]) -> DpState
+    fn next(mut self, word: [u8; 8], lengths: &[u8; 256]) -> DpState
+        requires { ⌜ LengthTable (now lengths) ⌝ }
         ensures { λ r. ⌜ r ≡ dpNext self word ⌝ }
     {
         if self.fetches() {
-            self = self.framed(word).advanced().followed();
+            self = self.framed(word, lengths).advanced().followed();
         }
         self
     }
 
-    // Turns until the budget is used, nothing is fetched or the output is full. The words stand in order from the output's start.
+    // Turns until the budget is used, nothing is fetched or the output is full. The words stand in order from the output's start. The table of lengths is
+    // made once, where the run begins.
     pub fn run(mut self, budget: u32, rdram: &[u8], dmem: &[u8], out: &mut [u8]) -> DpRan
         ensures count { λ r. ⌜ r .count ≡ dpTaken (roomFor budget (now (out .entry))) self (now (rdram .entry)) (now (dmem .entry)) ⌝ }
         ensures state { λ r. ⌜ r .state ≡ dpAfter (r .count) self (now (rdram .entry)) (now (dmem .entry)) ⌝ }
@@ -122,7 +137,7 @@ impl DpState {
             if self.fetches() {
                 let word = self.list_word(rdram, dmem);
                 store_word(out, count as usize * 8, word);
-                self = self.next(word);
+                self = self.next(word, &LENGTHS);
                 count += 1;
             } else {
                 return DpRan { state: self, count };

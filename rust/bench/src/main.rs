@@ -1,5 +1,7 @@
 //! How fast the library is, beside the same loop in plain Rust and beside a plain copy of as many bytes.
 
+#[cfg(before)]
+mod before;
 mod buffers;
 mod cases;
 mod plain;
@@ -11,19 +13,27 @@ use timing::Line;
 fn main() {
     println!("Nanoseconds a word (for turns a call, for recordings a record): medians of interleaved rounds on this machine.");
     println!("Plain Rust is the same loop, word by word, without checks of its input. Copy is copy_from_slice of as many bytes.\n");
-    println!("| What | Size | Ours | Plain Rust | Copy | Ours / plain Rust |");
-    println!("|---|--:|--:|--:|--:|--:|");
+    head("Ours | Plain Rust | Copy | Ours / plain Rust");
     cases::all(&mut show);
+    #[cfg(before)]
+    {
+        println!("\nBefore is the library that OFERSKY_BEFORE names.\n");
+        head("Ours | Before | Plain Rust | Ours / before");
+        cases::before_and_after(&mut show);
+    }
+}
+
+fn head(columns: &str) {
+    println!("| What | Size | {columns} |");
+    println!("|---|--:|--:|--:|--:|--:|");
 }
 
 fn show(line: Line) {
+    let [ours, other, third] = line.times;
     println!(
-        "| {} | {} | {:.2} | {:.2} | {:.3} | {:.2} |",
+        "| {} | {} | {ours:.2} | {other:.2} | {third:.3} | {:.2} |",
         line.what,
         line.size,
-        line.ours,
-        line.plain,
-        line.copy,
-        line.ours / line.plain
+        ours / other
     );
 }

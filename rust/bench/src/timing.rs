@@ -7,49 +7,44 @@ use std::time::{Duration, Instant};
 const ROUNDS: usize = 31;
 const ROUND: Duration = Duration::from_millis(2);
 
-/// Nanoseconds for each word, call or record.
+/// The nanoseconds of each way for each word, call or record.
 pub struct Line {
     pub what: String,
     pub size: usize,
-    pub ours: f64,
-    pub plain: f64,
-    pub copy: f64,
+    pub times: [f64; 3],
 }
 
-/// Times the library, the plain loop and the copy, after one run of each of the first two that must leave the same.
-pub fn measure<A: Into<Left>, B: Into<Left>>(
+/// Times the three, after one run of each of the first two that must leave the same.
+pub fn measure<A: Into<Left>, B: Into<Left>, C>(
     what: impl Into<String>,
     size: usize,
     buffers: &mut Buffers,
     ours: impl Fn(&mut Buffers) -> A,
-    plain: impl Fn(&mut Buffers) -> B,
-    copy: impl Fn(&mut Buffers),
+    other: impl Fn(&mut Buffers) -> B,
+    third: impl Fn(&mut Buffers) -> C,
 ) -> Line {
     let what = what.into();
-    let mut other = buffers.clone();
-    let (left, expected) = (ours(buffers).into(), plain(&mut other).into());
+    let mut copy = buffers.clone();
+    let (left, expected) = (ours(buffers).into(), other(&mut copy).into());
     assert_eq!(left, expected, "{what}, {size}");
-    assert!(*buffers == other, "{what}, {size}: the bytes differ");
-    drop(other);
+    assert!(*buffers == copy, "{what}, {size}: the bytes differ");
+    drop(copy);
     let repeats = [
         repeats(buffers, &ours),
-        repeats(buffers, &plain),
-        repeats(buffers, &copy),
+        repeats(buffers, &other),
+        repeats(buffers, &third),
     ];
     let mut times = [const { Vec::new() }; 3];
     for _ in 0..ROUNDS {
         // Interleaved, so that a slow spell of the machine falls on all three.
         times[0].push(round(buffers, repeats[0], &ours));
-        times[1].push(round(buffers, repeats[1], &plain));
-        times[2].push(round(buffers, repeats[2], &copy));
+        times[1].push(round(buffers, repeats[1], &other));
+        times[2].push(round(buffers, repeats[2], &third));
     }
-    let [ours, plain, copy] = times.map(|t| median(t) / size as f64);
     Line {
         what,
         size,
-        ours,
-        plain,
-        copy,
+        times: times.map(|t| median(t) / size as f64),
     }
 }
 

@@ -1,11 +1,14 @@
 //! DP runs over whole lists.
 
 use super::{DP_STATUS, END, RDRAM, START};
-use crate::buffers::{written, Buffers};
+#[cfg(before)]
+use crate::before;
+use crate::buffers::{written, Buffers, Left};
 use crate::plain::dp::LENGTHS;
-use crate::plain::Ran;
+use crate::plain::{Machine, Ran};
 use crate::random::Random;
 use crate::timing::{measure, Line};
+use ofersky::{Outcome, State};
 use std::hint::black_box;
 
 /// Where lists stand in RDRAM.
@@ -50,42 +53,120 @@ pub fn fill_list(bytes: &mut [u8], commands: Commands) {
     }
 }
 
-pub fn all(show: &mut dyn FnMut(Line)) {
-    let mut buffers = Buffers::new(RDRAM, 8 * SIZES[4]);
-    for commands in [Commands::OneWord, Commands::Mixed] {
-        fill_list(&mut buffers.rdram[LIST..][..8 * SIZES[4]], commands);
-        fill_list(&mut buffers.dmem[..], commands);
-        for size in SIZES {
-            show(list(&mut buffers, size, commands, false));
+/// Lists, one run each, and the machines and states that these begin with.
+struct Lists {
+    name: String,
+    words: usize,
+    begins: Vec<(usize, Machine, State)>,
+    xbus: bool,
+}
+
+impl Lists {
+    /// So many words in one list.
+    fn one(words: usize, commands: Commands, xbus: bool) -> Lists {
+        let memory = if xbus { "DMEM" } else { "RDRAM" };
+        let start = if xbus { 0 } else { LIST };
+        Lists {
+            name: format!("DP list in {memory}, {}", commands.name()),
+            words,
+            begins: vec![begun(start, words, xbus)],
+            xbus,
         }
-        show(list(&mut buffers, 512, commands, true));
+    }
+
+    /// As many lists as there is room for, no two alike: what the processor has seen of one does not help it with the next.
+    fn many(words: usize, commands: Commands) -> Lists {
+        let starts = (0..SIZES[4]).step_by(words).map(|at| LIST + 8 * at);
+        Lists {
+            name: format!("DP lists of {words}, {}", commands.name()),
+            words,
+            begins: starts.map(|start| begun(start, words, false)).collect(),
+            xbus: false,
+        }
+    }
+
+    /// By the call of a library.
+    fn called(
+        &self,
+        run: impl Fn(State, u32, &[u8], &[u8], &mut [u8]) -> Outcome,
+        b: &mut Buffers,
+    ) -> Outcome {
+        let mut done = Outcome::default();
+        let mut count = 0;
+        for (_, _, state) in &self.begins {
+            let (state, budget) = black_box((*state, u32::MAX));
+            done = run(state, budget, &b.rdram, &b.dmem[..], &mut b.out);
+            count += done.answer.count;
+        }
+        done.answer.count = count;
+        done
+    }
+
+    fn plain(&self, b: &mut Buffers) -> Ran {
+        let mut ran = Ran {
+            machine: Machine::default(),
+            count: 0,
+        };
+        for (_, machine, _) in &self.begins {
+            let budget;
+            (ran.machine, budget) = black_box((*machine, u32::MAX));
+            ran.count += ran.machine.dp.run(budget, &b.rdram, &b.dmem, &mut b.out);
+        }
+        ran
+    }
+
+    fn copy(&self, b: &mut Buffers) {
+        let memory = if self.xbus { &b.dmem[..] } else { &b.rdram };
+        for (start, _, _) in &self.begins {
+            let list = &memory[*start..][..8 * self.words];
+            b.out[..list.len()].copy_from_slice(list);
+        }
+    }
+
+    fn timed<A: Into<Left>, B>(
+        &self,
+        buffers: &mut Buffers,
+        other: impl Fn(&mut Buffers) -> A,
+        third: impl Fn(&mut Buffers) -> B,
+    ) -> Line {
+        let words = self.words * self.begins.len();
+        let ours = |b: &mut Buffers| self.called(ofersky::dp_run, b);
+        measure(&self.name, words, buffers, ours, other, third)
     }
 }
 
-fn list(buffers: &mut Buffers, words: usize, commands: Commands, xbus: bool) -> Line {
-    let start = if xbus { 0 } else { LIST };
+/// The machine, and the library's state, where a list is about to run.
+fn begun(start: usize, words: usize, xbus: bool) -> (usize, Machine, State) {
     let (machine, state) = written(&[
         (DP_STATUS, if xbus { 2 } else { 1 }),
         (START, start as u32),
         (END, (start + 8 * words) as u32),
     ]);
-    let memory = if xbus { "DMEM" } else { "RDRAM" };
-    measure(
-        format!("DP list in {memory}, {}", commands.name()),
-        words,
-        buffers,
-        |b| {
-            let (state, budget) = black_box((state, u32::MAX));
-            ofersky::dp_run(state, budget, &b.rdram, &b.dmem[..], &mut b.out)
-        },
-        |b| {
-            let (mut machine, budget) = black_box((machine, u32::MAX));
-            let count = machine.dp.run(budget, &b.rdram, &b.dmem, &mut b.out);
-            Ran { machine, count }
-        },
-        |b| {
-            let memory = if xbus { &b.dmem[..] } else { &b.rdram };
-            b.out[..8 * words].copy_from_slice(&memory[start..][..8 * words]);
-        },
-    )
+    (start, machine, state)
+}
+
+/// Lists of every size with both kinds of commands.
+fn each(mut time: impl FnMut(&mut Buffers, &Lists)) {
+    let mut buffers = Buffers::new(RDRAM, 8 * SIZES[4]);
+    for commands in [Commands::OneWord, Commands::Mixed] {
+        fill_list(&mut buffers.rdram[LIST..][..8 * SIZES[4]], commands);
+        fill_list(&mut buffers.dmem[..], commands);
+        for words in SIZES {
+            time(&mut buffers, &Lists::one(words, commands, false));
+        }
+        time(&mut buffers, &Lists::many(64, commands));
+        time(&mut buffers, &Lists::one(512, commands, true));
+    }
+}
+
+pub fn all(show: &mut dyn FnMut(Line)) {
+    each(|buffers, lists| show(lists.timed(buffers, |b| lists.plain(b), |b| lists.copy(b))));
+}
+
+#[cfg(before)]
+pub fn before_and_after(show: &mut dyn FnMut(Line)) {
+    each(|buffers, lists| {
+        let before = |b: &mut Buffers| lists.called(before::dp_run, b);
+        show(lists.timed(buffers, before, |b| lists.plain(b)));
+    });
 }

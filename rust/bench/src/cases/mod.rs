@@ -28,3 +28,10 @@ pub fn all(show: &mut dyn FnMut(Line)) {
     replays::all(show);
     writing::all(show);
 }
+
+/// The DP's lines, beside an earlier library.
+#[cfg(before)]
+pub fn before_and_after(show: &mut dyn FnMut(Line)) {
+    dp::before_and_after(show);
+    turns::before_and_after(show);
+}

@@ -2,9 +2,12 @@
 
 use super::dp::{fill_list, Commands};
 use super::{END, RAMADDR, RDLEN, SPADDR, START};
-use crate::buffers::{written, Buffers};
-use crate::plain::Ran;
+#[cfg(before)]
+use crate::before;
+use crate::buffers::{written, Buffers, Left};
+use crate::plain::{Machine, Ran};
 use crate::timing::{measure, Line};
+use ofersky::{Outcome, State};
 use std::hint::black_box;
 
 const SIZES: [(usize, &str); 3] = [(1 << 12, "4 KiB"), (1 << 20, "1 MiB"), (1 << 24, "16 MiB")];
@@ -16,11 +19,7 @@ pub fn all(show: &mut dyn FnMut(Line)) {
     for (rdram, name) in SIZES {
         show(sp_turns(&mut Buffers::new(rdram, 0), name));
     }
-    for (rdram, name) in SIZES {
-        let mut buffers = Buffers::new(rdram, 0);
-        fill_list(&mut buffers.rdram[..8 * TURNS], Commands::Mixed);
-        show(dp_turns(&mut buffers, name));
-    }
+    each_dp(|buffers, turns| show(turns.timed(buffers, |b| turns.plain(b), |b| turns.copy(b))));
 }
 
 fn sp_turns(buffers: &mut Buffers, name: &str) -> Line {
@@ -30,7 +29,7 @@ fn sp_turns(buffers: &mut Buffers, name: &str) -> Line {
         TURNS,
         buffers,
         |b| {
-            let mut done = ofersky::Outcome {
+            let mut done = Outcome {
                 state,
                 ..Default::default()
             };
@@ -62,41 +61,81 @@ fn sp_turns(buffers: &mut Buffers, name: &str) -> Line {
     )
 }
 
-fn dp_turns(buffers: &mut Buffers, name: &str) -> Line {
-    let (machine, state) = written(&[(START, 0), (END, 8 * TURNS as u32)]);
-    measure(
-        format!("DP turns, RDRAM of {name}"),
-        TURNS,
-        buffers,
-        |b| {
-            let mut done = ofersky::Outcome {
-                state,
-                ..Default::default()
-            };
-            let mut count = 0;
-            for _ in 0..TURNS {
-                done = ofersky::dp_turn(done.state, &b.rdram, &b.dmem[..]);
-                count += done.answer.count;
-                black_box(done.answer.value);
-            }
-            done.answer.count = count;
-            done
-        },
-        |b| {
-            let mut machine = machine;
-            let mut count = 0;
-            for _ in 0..TURNS {
-                let word = black_box(&mut machine).dp.turn(&b.rdram, &b.dmem);
-                count += word.is_some() as u32;
-                black_box(u64::from_be_bytes(word.unwrap_or_default()));
-            }
-            Ran { machine, count }
-        },
-        |b| {
-            for at in (0..8 * TURNS).step_by(8) {
-                let at = black_box(at);
-                black_box::<[u8; 8]>(b.rdram[at..at + 8].try_into().unwrap());
-            }
-        },
-    )
+/// DP turns over a list of mixed commands at the start of RDRAM.
+struct DpTurns {
+    name: String,
+    machine: Machine,
+    state: State,
+}
+
+impl DpTurns {
+    fn new(name: &str) -> DpTurns {
+        let (machine, state) = written(&[(START, 0), (END, 8 * TURNS as u32)]);
+        DpTurns {
+            name: format!("DP turns, RDRAM of {name}"),
+            machine,
+            state,
+        }
+    }
+
+    /// By the call of a library.
+    fn called(&self, turn: impl Fn(State, &[u8], &[u8]) -> Outcome, b: &mut Buffers) -> Outcome {
+        let mut done = Outcome {
+            state: self.state,
+            ..Default::default()
+        };
+        let mut count = 0;
+        for _ in 0..TURNS {
+            done = turn(done.state, &b.rdram, &b.dmem[..]);
+            count += done.answer.count;
+            black_box(done.answer.value);
+        }
+        done.answer.count = count;
+        done
+    }
+
+    fn plain(&self, b: &mut Buffers) -> Ran {
+        let mut machine = self.machine;
+        let mut count = 0;
+        for _ in 0..TURNS {
+            let word = black_box(&mut machine).dp.turn(&b.rdram, &b.dmem);
+            count += word.is_some() as u32;
+            black_box(u64::from_be_bytes(word.unwrap_or_default()));
+        }
+        Ran { machine, count }
+    }
+
+    fn copy(&self, b: &mut Buffers) {
+        for at in (0..8 * TURNS).step_by(8) {
+            let at = black_box(at);
+            black_box::<[u8; 8]>(b.rdram[at..at + 8].try_into().unwrap());
+        }
+    }
+
+    fn timed<A: Into<Left>, B>(
+        &self,
+        buffers: &mut Buffers,
+        other: impl Fn(&mut Buffers) -> A,
+        third: impl Fn(&mut Buffers) -> B,
+    ) -> Line {
+        let ours = |b: &mut Buffers| self.called(ofersky::dp_turn, b);
+        measure(&self.name, TURNS, buffers, ours, other, third)
+    }
+}
+
+/// In RDRAM of every size.
+fn each_dp(mut time: impl FnMut(&mut Buffers, &DpTurns)) {
+    for (rdram, name) in SIZES {
+        let mut buffers = Buffers::new(rdram, 0);
+        fill_list(&mut buffers.rdram[..8 * TURNS], Commands::Mixed);
+        time(&mut buffers, &DpTurns::new(name));
+    }
+}
+
+#[cfg(before)]
+pub fn before_and_after(show: &mut dyn FnMut(Line)) {
+    each_dp(|buffers, turns| {
+        let before = |b: &mut Buffers| turns.called(before::dp_turn, b);
+        show(turns.timed(buffers, before, |b| turns.plain(b)));
+    });
 }

@@ -1,0 +1,33 @@
+//! OFERSKY_BEFORE names the folder of an earlier libofersky.a, to be timed beside this one in the same run. All its names are hidden but the DP's calls,
+//! which get names of their own.
+
+use std::env;
+use std::path::{Path, PathBuf};
+use std::process::Command;
+
+fn main() {
+    println!("cargo:rustc-check-cfg=cfg(before)");
+    println!("cargo:rerun-if-env-changed=OFERSKY_BEFORE");
+    let Some(folder) = env::var_os("OFERSKY_BEFORE") else {
+        return;
+    };
+    let library = PathBuf::from(folder).join("libofersky.a");
+    println!("cargo:rerun-if-changed={}", library.display());
+    let out = PathBuf::from(env::var_os("OUT_DIR").unwrap());
+    rename(&library, &out.join("libbefore.a"));
+    println!("cargo:rustc-link-search=native={}", out.display());
+    println!("cargo:rustc-link-lib=static=before");
+    println!("cargo:rustc-cfg=before");
+}
+
+fn rename(from: &Path, to: &Path) {
+    let mut objcopy = Command::new("objcopy");
+    for call in ["dp_run", "dp_turn"] {
+        objcopy.arg(format!("--redefine-sym=ofersky_{call}=before_{call}"));
+        objcopy.arg(format!("--keep-global-symbol=before_{call}"));
+    }
+    match objcopy.arg(from).arg(to).status() {
+        Ok(status) if status.success() => {}
+        other => panic!("objcopy of {}: {other:?}", from.display()),
+    }
+}
