@@ -1,4 +1,5 @@
-//! How fast the library is, beside the same loop in plain Rust and beside a plain copy of as many bytes.
+//! How fast the library is, beside the same loop in plain Rust and beside a plain copy of as many bytes; and what the DP's words took in an earlier library, if
+//! build.rs was told of one.
 
 #[cfg(before)]
 mod before;
