@@ -1,13 +1,11 @@
 //! DP runs over whole lists.
 
-use super::{DP_STATUS, END, RDRAM, START};
-#[cfg(before)]
-use crate::before;
-use crate::buffers::{written, Buffers, Left};
+use super::{DpWords, DP_STATUS, END, RDRAM, START};
+use crate::buffers::{written, Buffers};
 use crate::plain::dp::LENGTHS;
 use crate::plain::{Machine, Ran};
 use crate::random::Random;
-use crate::timing::{measure, Line};
+use crate::timing::Line;
 use ofersky::{Outcome, State};
 use std::hint::black_box;
 
@@ -53,23 +51,44 @@ pub fn fill_list(bytes: &mut [u8], commands: Commands) {
     }
 }
 
-/// Lists, one run each, and the machines and states that these begin with.
+/// A list that is about to run.
+struct List {
+    start: usize,
+    machine: Machine,
+    state: State,
+}
+
+impl List {
+    fn new(start: usize, words: usize, xbus: bool) -> List {
+        let (machine, state) = written(&[
+            (DP_STATUS, if xbus { 2 } else { 1 }),
+            (START, start as u32),
+            (END, (start + 8 * words) as u32),
+        ]);
+        List {
+            start,
+            machine,
+            state,
+        }
+    }
+}
+
+/// Lists of as many words each, one run for each of them.
 struct Lists {
     name: String,
     words: usize,
-    begins: Vec<(usize, Machine, State)>,
+    lists: Vec<List>,
     xbus: bool,
 }
 
 impl Lists {
-    /// So many words in one list.
     fn one(words: usize, commands: Commands, xbus: bool) -> Lists {
         let memory = if xbus { "DMEM" } else { "RDRAM" };
         let start = if xbus { 0 } else { LIST };
         Lists {
             name: format!("DP list in {memory}, {}", commands.name()),
             words,
-            begins: vec![begun(start, words, xbus)],
+            lists: vec![List::new(start, words, xbus)],
             xbus,
         }
     }
@@ -80,7 +99,7 @@ impl Lists {
         Lists {
             name: format!("DP lists of {words}, {}", commands.name()),
             words,
-            begins: starts.map(|start| begun(start, words, false)).collect(),
+            lists: starts.map(|at| List::new(at, words, false)).collect(),
             xbus: false,
         }
     }
@@ -93,13 +112,32 @@ impl Lists {
     ) -> Outcome {
         let mut done = Outcome::default();
         let mut count = 0;
-        for (_, _, state) in &self.begins {
-            let (state, budget) = black_box((*state, u32::MAX));
+        for list in &self.lists {
+            let (state, budget) = black_box((list.state, u32::MAX));
             done = run(state, budget, &b.rdram, &b.dmem[..], &mut b.out);
             count += done.answer.count;
         }
         done.answer.count = count;
         done
+    }
+}
+
+impl DpWords for Lists {
+    fn name(&self) -> &str {
+        &self.name
+    }
+
+    fn words(&self) -> usize {
+        self.words * self.lists.len()
+    }
+
+    fn ours(&self, b: &mut Buffers) -> Outcome {
+        self.called(ofersky::dp_run, b)
+    }
+
+    #[cfg(before)]
+    fn before(&self, b: &mut Buffers) -> Outcome {
+        self.called(crate::before::dp_run, b)
     }
 
     fn plain(&self, b: &mut Buffers) -> Ran {
@@ -107,9 +145,9 @@ impl Lists {
             machine: Machine::default(),
             count: 0,
         };
-        for (_, machine, _) in &self.begins {
+        for list in &self.lists {
             let budget;
-            (ran.machine, budget) = black_box((*machine, u32::MAX));
+            (ran.machine, budget) = black_box((list.machine, u32::MAX));
             ran.count += ran.machine.dp.run(budget, &b.rdram, &b.dmem, &mut b.out);
         }
         ran
@@ -117,32 +155,11 @@ impl Lists {
 
     fn copy(&self, b: &mut Buffers) {
         let memory = if self.xbus { &b.dmem[..] } else { &b.rdram };
-        for (start, _, _) in &self.begins {
-            let list = &memory[*start..][..8 * self.words];
-            b.out[..list.len()].copy_from_slice(list);
+        for list in &self.lists {
+            let words = &memory[list.start..][..8 * self.words];
+            b.out[..words.len()].copy_from_slice(words);
         }
     }
-
-    fn timed<A: Into<Left>, B>(
-        &self,
-        buffers: &mut Buffers,
-        other: impl Fn(&mut Buffers) -> A,
-        third: impl Fn(&mut Buffers) -> B,
-    ) -> Line {
-        let words = self.words * self.begins.len();
-        let ours = |b: &mut Buffers| self.called(ofersky::dp_run, b);
-        measure(&self.name, words, buffers, ours, other, third)
-    }
-}
-
-/// The machine, and the library's state, where a list is about to run.
-fn begun(start: usize, words: usize, xbus: bool) -> (usize, Machine, State) {
-    let (machine, state) = written(&[
-        (DP_STATUS, if xbus { 2 } else { 1 }),
-        (START, start as u32),
-        (END, (start + 8 * words) as u32),
-    ]);
-    (start, machine, state)
 }
 
 /// Lists of every size with both kinds of commands.
@@ -160,13 +177,10 @@ fn each(mut time: impl FnMut(&mut Buffers, &Lists)) {
 }
 
 pub fn all(show: &mut dyn FnMut(Line)) {
-    each(|buffers, lists| show(lists.timed(buffers, |b| lists.plain(b), |b| lists.copy(b))));
+    each(|buffers, lists| show(lists.beside_plain(buffers)));
 }
 
 #[cfg(before)]
 pub fn before_and_after(show: &mut dyn FnMut(Line)) {
-    each(|buffers, lists| {
-        let before = |b: &mut Buffers| lists.called(before::dp_run, b);
-        show(lists.timed(buffers, before, |b| lists.plain(b)));
-    });
+    each(|buffers, lists| show(lists.beside_before(buffers)));
 }

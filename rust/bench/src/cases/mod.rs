@@ -6,7 +6,10 @@ mod sp;
 mod turns;
 mod writing;
 
-use crate::timing::Line;
+use crate::buffers::Buffers;
+use crate::plain::Ran;
+use crate::timing::{measure, Line};
+use ofersky::Outcome;
 
 const RDRAM: usize = 1 << 24;
 
@@ -34,4 +37,39 @@ pub fn all(show: &mut dyn FnMut(Line)) {
 pub fn before_and_after(show: &mut dyn FnMut(Line)) {
     dp::before_and_after(show);
     turns::before_and_after(show);
+}
+
+/// Words that the DP fetches, in every way that is timed.
+trait DpWords {
+    fn name(&self) -> &str;
+    fn words(&self) -> usize;
+    fn ours(&self, buffers: &mut Buffers) -> Outcome;
+    /// By the calls of an earlier library.
+    #[cfg(before)]
+    fn before(&self, buffers: &mut Buffers) -> Outcome;
+    fn plain(&self, buffers: &mut Buffers) -> Ran;
+    fn copy(&self, buffers: &mut Buffers);
+
+    fn beside_plain(&self, buffers: &mut Buffers) -> Line {
+        measure(
+            self.name(),
+            self.words(),
+            buffers,
+            |b| self.ours(b),
+            |b| self.plain(b),
+            |b| self.copy(b),
+        )
+    }
+
+    #[cfg(before)]
+    fn beside_before(&self, buffers: &mut Buffers) -> Line {
+        measure(
+            self.name(),
+            self.words(),
+            buffers,
+            |b| self.ours(b),
+            |b| self.before(b),
+            |b| self.plain(b),
+        )
+    }
 }

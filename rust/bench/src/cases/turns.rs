@@ -1,10 +1,8 @@
 //! Single turns, each a call of its own. Their cost must not grow with RDRAM.
 
 use super::dp::{fill_list, Commands};
-use super::{END, RAMADDR, RDLEN, SPADDR, START};
-#[cfg(before)]
-use crate::before;
-use crate::buffers::{written, Buffers, Left};
+use super::{DpWords, END, RAMADDR, RDLEN, SPADDR, START};
+use crate::buffers::{written, Buffers};
 use crate::plain::{Machine, Ran};
 use crate::timing::{measure, Line};
 use ofersky::{Outcome, State};
@@ -19,7 +17,7 @@ pub fn all(show: &mut dyn FnMut(Line)) {
     for (rdram, name) in SIZES {
         show(sp_turns(&mut Buffers::new(rdram, 0), name));
     }
-    each_dp(|buffers, turns| show(turns.timed(buffers, |b| turns.plain(b), |b| turns.copy(b))));
+    each_dp(|buffers, turns| show(turns.beside_plain(buffers)));
 }
 
 fn sp_turns(buffers: &mut Buffers, name: &str) -> Line {
@@ -93,6 +91,25 @@ impl DpTurns {
         done.answer.count = count;
         done
     }
+}
+
+impl DpWords for DpTurns {
+    fn name(&self) -> &str {
+        &self.name
+    }
+
+    fn words(&self) -> usize {
+        TURNS
+    }
+
+    fn ours(&self, b: &mut Buffers) -> Outcome {
+        self.called(ofersky::dp_turn, b)
+    }
+
+    #[cfg(before)]
+    fn before(&self, b: &mut Buffers) -> Outcome {
+        self.called(crate::before::dp_turn, b)
+    }
 
     fn plain(&self, b: &mut Buffers) -> Ran {
         let mut machine = self.machine;
@@ -111,16 +128,6 @@ impl DpTurns {
             black_box::<[u8; 8]>(b.rdram[at..at + 8].try_into().unwrap());
         }
     }
-
-    fn timed<A: Into<Left>, B>(
-        &self,
-        buffers: &mut Buffers,
-        other: impl Fn(&mut Buffers) -> A,
-        third: impl Fn(&mut Buffers) -> B,
-    ) -> Line {
-        let ours = |b: &mut Buffers| self.called(ofersky::dp_turn, b);
-        measure(&self.name, TURNS, buffers, ours, other, third)
-    }
 }
 
 /// In RDRAM of every size.
@@ -134,8 +141,5 @@ fn each_dp(mut time: impl FnMut(&mut Buffers, &DpTurns)) {
 
 #[cfg(before)]
 pub fn before_and_after(show: &mut dyn FnMut(Line)) {
-    each_dp(|buffers, turns| {
-        let before = |b: &mut Buffers| turns.called(before::dp_turn, b);
-        show(turns.timed(buffers, before, |b| turns.plain(b)));
-    });
+    each_dp(|buffers, turns| show(turns.beside_before(buffers)));
 }
