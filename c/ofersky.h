@@ -6,7 +6,7 @@
  * back as handed in, value and count are 0, and no lent byte differs. What a caller owes is what C always asks: a pointer points to as many
  * bytes as the length beside it says (with length 0 it is still not NULL), and memory that a call may write overlaps nothing else that it is lent.
  *
- *   0 success                            5 not one of the sixteen register addresses
+ *   0 success                            5 no register stands at the address
  *   1 RDRAM length not allowed           6 memory record address not allowed
  *   2 DMEM not 4,096 bytes               7 unknown record kind
  *   3 IMEM not 4,096 bytes               8 record cut short
@@ -98,7 +98,8 @@ typedef struct {
 ofersky_state ofersky_power_up(void);
 bool ofersky_is_sound(ofersky_state s);
 
-/* Registers by address, ticks, a BREAK, the acknowledge of the DP interrupt. Refusals: 4; for registers then 10, 5. */
+/* Registers by address, ticks, a BREAK, the acknowledge of the DP interrupt. The SP registers stand at 0x04040000 to 0x0404001C; the DP registers
+ * at 0x04100000 to 0x0410001C, and their mirrors every 0x20 bytes up to 0x041FFFFC. Refusals: 4; for registers then 10, 5. */
 ofersky_outcome ofersky_read_register(ofersky_state s, uint32_t address);
 ofersky_outcome ofersky_write_register(ofersky_state s, uint32_t address, uint32_t value);
 ofersky_outcome ofersky_tick(ofersky_state s, uint32_t n);

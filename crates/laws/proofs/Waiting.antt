@@ -28,14 +28,14 @@ use Rattle.machine.specs.declared.Outcome.{Outcome}
 use Rattle.machine.specs.declared.Register.{Register}
 use Rattle.machine.specs.declared.Register.the-variants.{Sp, Dp, Misaligned, Unmapped}
 use Rattle.machine.specs.Sound.{powerUp, withSp, sound}
-use Rattle.machine.specs.Address.{registerAt, addresses}
+use Rattle.machine.specs.Address.{inBlock, registerAt, firstCopy, addresses}
 use Rattle.machine.specs.Refusals.{isRegister, registerNumber, accessRefusal, stateRefusal, spRefusal, dpRefusal, accepted, declined, ifRefused}
 use Rattle.machine.specs.Calls.{readAt, writeAt, readRegister, writeRegister, tick, break, acknowledge}
 use Rattle.machine.specs.Turns.{spTurn, dpTurn}
 use Rattle.machine.specs.Runs.{spRun, dpRun}
 use Rattle.machine.proofs.Sound.{facts, power-up-sound}
 use Rattle.machine.proofs.Kept.{either-way, read-kept, write-kept, tick-kept, break-kept, acknowledge-kept, sp-turn-kept, dp-turn-kept, sp-run-kept, dp-run-kept}
-use Rattle.machine.proofs.Address.{sixteen}
+use Rattle.machine.proofs.Address.{in-block, mirrored, sixteen}
 use Rattle.laws.specs.Waiting.{Event, reads, writes, ticks, breaks, acknowledges, spTurnOver, dpTurnOver, spRunOver, dpRunOver, eventLeaves, traceLeaves, Written, noted, note, lastWritten, writtenBefore, Holds, isLength, lengthWrites, writesLength, movesOf, moves, begins, begun, SameTransfer, Starts, Before, BeginsOnce, TraceWritten}
 
 -- ---- What a write does, by the register at its address
@@ -94,12 +94,30 @@ none-taken Unmapped e = refl
 other : (a x : ℕ) → isRegister (registerAt x) ≡ true → isRegister (registerAt a) ≡ false → eqb a x ≡ false
 other a x p q = ne-eqb a x (λ e. contradiction p (ap (λ (b : ℕ). isRegister (registerAt b)) (sym e) ∙ q))
 
+-- An address is x, which is below the DP registers, exactly if its first copy is x
+by-first-copy : (a x : ℕ) → x < 0x04100000 → eqb a x ≡ eqb (firstCopy a) x
+by-first-copy a x h = by (inBlock 0x04100000 0x041FFFFF a) mirror (λ e. rw e)
+  where
+    mirror : inBlock 0x04100000 0x041FFFFF a ≡ true → eqb a x ≡ eqb (firstCopy a) x
+    mirror e =
+        let b = in-block 0x04100000 0x041FFFFF a e in
+        ne-eqb a x (λ p. absurd (omega (arith, b .0, p)))
+        ∙ rw e (sym (ne-eqb (0x04100000 + a % 0x20) x (λ p. absurd (omega (arith, p)))))
+
 -- The addresses that the trace is read by are those of these registers
 notes-at : (a v : ℕ) (w : Written) → noted a v w ≡ notes (registerAt a) v w
 unfolding registerAt
 notes-at a v w =
     by (isRegister (registerAt a))
-    (λ e. same-on (λ x. noted x v w) (λ x. notes (registerAt x) v w) addresses a refl (sixteen a .0 e))
+    (λ e.
+    rw (
+      by-first-copy a 0x04040000 (omega arith),
+      by-first-copy a 0x04040004 (omega arith),
+      by-first-copy a 0x04040008 (omega arith),
+      by-first-copy a 0x0404000C (omega arith),
+      mirrored a,
+    )
+    (same-on (λ x. noted x v w) (λ x. notes (registerAt x) v w) addresses (firstCopy a) refl (sixteen a .0 e)))
     (λ e.
     rw (other a 0x04040000 refl e, other a 0x04040004 refl e, other a 0x04040008 refl e, other a 0x0404000C refl e)
     (none-noted (registerAt a) v w e))
@@ -108,7 +126,9 @@ length-at : (a : ℕ) → (eqb a 0x04040008 || eqb a 0x0404000C) ≡ takesLength
 unfolding registerAt
 length-at a =
     by (isRegister (registerAt a))
-    (λ e. same-on (λ x. eqb x 0x04040008 || eqb x 0x0404000C) (λ x. takesLength (registerAt x)) addresses a refl (sixteen a .0 e))
+    (λ e.
+    rw (by-first-copy a 0x04040008 (omega arith), by-first-copy a 0x0404000C (omega arith), mirrored a)
+    (same-on (λ x. eqb x 0x04040008 || eqb x 0x0404000C) (λ x. takesLength (registerAt x)) addresses (firstCopy a) refl (sixteen a .0 e)))
     (λ e.
     rw (other a 0x04040008 refl e, other a 0x0404000C refl e)
     (none-taken (registerAt a) e))

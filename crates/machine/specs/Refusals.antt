@@ -12,7 +12,7 @@ use Rattle.machine.specs.declared.Outcome.{Outcome}
 use Rattle.machine.specs.declared.Register.{Register}
 use Rattle.machine.specs.declared.Register.the-variants.{Sp, Dp, Misaligned, Unmapped}
 use Rattle.machine.specs.Sound.{sound}
-use Rattle.machine.specs.Address.{aligned, registerAt, addresses}
+use Rattle.machine.specs.Address.{aligned, registerAt, firstCopy, addresses}
 
 -- The number n where a check fails, else what the later checks give
 abbrev pub check : Bool → ℕ → ℕ → ℕ
@@ -99,8 +99,9 @@ tenAsFive n = cond (eqb n 10) 5 n
 pub record AddressGiven (a : ℕ) : Type 0 where
   pub alignedNumber : eqb (registerNumber (registerAt a)) 10 ≡ not (aligned a)
   pub mappedNumber : eqb (registerNumber (registerAt a)) 5 ≡ aligned a && not (isRegister (registerAt a))
-  -- It is refused exactly where it is none of the sixteen, as when 5 stood for both
-  pub accepted : (registerNumber (registerAt a) ≡ 0) ↔ List·Memᴰ a addresses
+  -- It is accepted exactly where its first copy is one of the sixteen addresses
+  pub accepted : (registerNumber (registerAt a) ≡ 0) ↔ List·Memᴰ (firstCopy a) addresses
+  -- With 10 read as 5 it is what it was when 5 stood for both
   pub asBefore : tenAsFive (registerNumber (registerAt a)) ≡ check (isRegister (registerAt a)) 5 0
 
 -- It answers that number. If the number is not 0, the value is 0, the count is 0 and the state is as handed in

@@ -4,4 +4,5 @@ pub mod Steps
 pub mod Room
 pub mod Replaying
 pub mod Appended
+pub mod Mirrors
 pub mod Case

@@ -4,4 +4,5 @@ pub mod Replay
 pub mod Promised
 pub mod Theorems
 pub mod Appended
+pub mod Mirrors
 pub mod Case

@@ -7,4 +7,5 @@ pub mod Splitting
 pub mod Writing
 pub mod Rewriting
 pub mod Appending
+pub mod Mirrors
 pub mod Samples

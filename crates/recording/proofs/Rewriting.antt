@@ -25,7 +25,7 @@ use Rattle.recording.proofs.Splitting.{short, read-accepted, read-fits}
 use Rattle.recording.proofs.Writing.{gives-number, gives-accepted, accepted-bytes}
 
 -- The kind that was decoded
-decoded-kind : (k a v w : ℕ) → isKind k ≡ true → kindNumber (decoded k a v w) ≡ k
+pub decoded-kind : (k a v w : ℕ) → isKind k ≡ true → kindNumber (decoded k a v w) ≡ k
 unfolding decoded
 decoded-kind k a v w = each-kind (λ (n : ℕ). kindNumber (decoded n a v w) ≡ n) refl refl refl refl refl refl refl refl refl k
 

@@ -51,7 +51,7 @@ skipped at zero s = refl
 skipped at (suc k) [] = refl
 skipped at (suc k) (b ∷ s) = skipped at k s
 
-split-empty : (at : ℕ) (s : List ℕ) → length s ≤ 0 → splitFrom at 0 s ≡ stops at 0
+pub split-empty : (at : ℕ) (s : List ℕ) → length s ≤ 0 → splitFrom at 0 s ≡ stops at 0
 unfolding splitFrom
 split-empty at [] h = refl
 split-empty at (b ∷ s) h = absurd (omega arith)
@@ -64,7 +64,7 @@ split-accepted at (b ∷ s) e =
     if-accepted (recordNumber (b ∷ s)) _ _ e
     ∙ rw (one-add (bodySize b)) (ap (precedes (recordOf (b ∷ s))) (skipped (at + suc (bodySize b)) (bodySize b) s))
 
-split-declined : (at : ℕ) (s : List ℕ) (n : ℕ) → 0 < length s → recordNumber s ≡ suc n → splitFrom at 0 s ≡ stops at (suc n)
+pub split-declined : (at : ℕ) (s : List ℕ) (n : ℕ) → 0 < length s → recordNumber s ≡ suc n → splitFrom at 0 s ≡ stops at (suc n)
 unfolding splitFrom
 split-declined at [] n h e = absurd (omega arith)
 split-declined at (b ∷ s) n h e = if-refused (recordNumber (b ∷ s)) _ _ (λ z. omega arith) ∙ ap (stops at) e

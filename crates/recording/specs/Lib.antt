@@ -4,4 +4,5 @@ pub mod Reader
 pub mod Writer
 pub mod Split
 pub mod Written
+pub mod Mirrors
 pub mod Samples

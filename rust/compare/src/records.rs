@@ -1,6 +1,7 @@
 //! Recordings as bytes: cut into records, and printed.
 
 use crate::difference::hex;
+use crate::values::first_copy;
 use model::machine::REGISTERS;
 use std::ops::Range;
 
@@ -65,10 +66,12 @@ const REGISTER_NAMES: [&str; 16] = [
     "TMEM_BUSY",
 ];
 
-/// An address by its register's name, or in hex.
+/// An address by its register's name, in a mirror with the address, or in hex.
 pub fn address_name(address: u32) -> String {
-    match REGISTERS.iter().position(|register| *register == address) {
-        Some(i) => REGISTER_NAMES[i].to_string(),
+    let first = first_copy(address);
+    match REGISTERS.iter().position(|register| *register == first) {
+        Some(i) if first == address => REGISTER_NAMES[i].to_string(),
+        Some(i) => format!("{} at 0x{address:08X}", REGISTER_NAMES[i]),
         None => format!("0x{address:08X}"),
     }
 }

@@ -2,8 +2,9 @@
 
 use crate::call::{Call, Case, NAMES};
 use crate::events::{Event, Events};
+use crate::records::pieces;
 use crate::seen::Seen;
-use model::machine::REGISTERS;
+use crate::values::{first_copy, is_register};
 use std::sync::Mutex;
 
 /// The numbers that calls give: success and the refusals up to 14.
@@ -28,6 +29,8 @@ pub struct Totals {
     pub later: [u64; NUMBERS],
     /// The addresses that are not a multiple of 4, by call: within the blocks of registers, and elsewhere.
     pub misaligned: [[u64; 2]; NAMES.len()],
+    /// The accepted accesses through a mirror, by call.
+    pub mirrors: [u64; NAMES.len()],
     pub events: Events,
 }
 
@@ -36,9 +39,13 @@ impl Totals {
         let (call, number) = (case.call.index(), seen.number() as usize);
         self.answers[call][number] += 1;
         if number == MISALIGNED {
-            let within = REGISTERS.contains(&(refused_address(case, seen) & !3));
+            let within = is_register(refused_address(case, seen) & !3);
             self.misaligned[call][usize::from(!within)] += 1;
         }
+        let mirrors = accessed(case, seen)
+            .into_iter()
+            .filter(|address| first_copy(*address) != *address);
+        self.mirrors[call] += mirrors.count() as u64;
         if call == REPLAY {
             self.records += u64::from(seen.outcome.answer.count);
             self.stopped += u64::from(number != 0);
@@ -59,6 +66,7 @@ impl Totals {
             self.misaligned.as_flattened_mut(),
             other.misaligned.as_flattened(),
         );
+        add_each(&mut self.mirrors, &other.mirrors);
         self.events.add(&other.events);
     }
 
@@ -126,6 +134,15 @@ impl Totals {
         );
     }
 
+    /// This call accepted accesses through mirrors at least so often; a replay may have many.
+    pub fn expect_mirrors(&self, call: &str, least: u64) {
+        let seen = self.mirrors[index(call)];
+        assert!(
+            seen >= least,
+            "{call} accepted only {seen} accesses through mirrors"
+        );
+    }
+
     /// Each of these events was seen at least so often.
     pub fn expect_events(&self, events: &[Event], least: u64) {
         for event in events {
@@ -147,18 +164,44 @@ fn add_each(mine: &mut [u64], others: &[u64]) {
     }
 }
 
+/// The address in the record at this place, of a kind that has one.
+fn address_at(recording: &[u8], place: usize) -> u32 {
+    let address = recording[place + 1..place + 5].try_into();
+    u32::from_be_bytes(address.expect("four bytes"))
+}
+
 /// The address that a call refused: its own, or that of the record.
 fn refused_address(case: &Case, seen: &Seen) -> u32 {
-    let of_record = |recording: &[u8], place: usize| {
-        let address = recording[place + 1..place + 5].try_into();
-        u32::from_be_bytes(address.expect("four bytes"))
-    };
     match &case.call {
         Call::Read { address } | Call::Write { address, .. } => *address,
         Call::WriteRecord { item, .. } => item.address,
-        Call::ReadRecord { recording, place } => of_record(recording, *place),
-        Call::Replay { recording, .. } => of_record(recording, seen.place),
+        Call::ReadRecord { recording, place } => address_at(recording, *place),
+        Call::Replay { recording, .. } => address_at(recording, seen.place),
         call => panic!("{} takes no address", call.name()),
+    }
+}
+
+/// The register addresses that a call accepted: its own, or those of the records.
+fn accessed(case: &Case, seen: &Seen) -> Vec<u32> {
+    let accepted = seen.number() == 0;
+    let of_record = |recording: &[u8], place: usize| {
+        let access = matches!(recording[place], 1 | 2);
+        access.then(|| address_at(recording, place))
+    };
+    match &case.call {
+        Call::Read { address } | Call::Write { address, .. } if accepted => vec![*address],
+        Call::WriteRecord { item, .. } if accepted && matches!(item.kind, 1 | 2) => {
+            vec![item.address]
+        }
+        Call::ReadRecord { recording, place } if accepted => {
+            of_record(recording, *place).into_iter().collect()
+        }
+        Call::Replay { recording, .. } => pieces(recording)
+            .iter()
+            .take(seen.outcome.answer.count as usize)
+            .filter_map(|piece| of_record(recording, piece.start))
+            .collect(),
+        _ => Vec::new(),
     }
 }
 

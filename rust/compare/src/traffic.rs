@@ -40,8 +40,19 @@ impl<'a> Traffic<'a> {
         self.watch.record(record);
     }
 
-    pub fn write(&mut self, address: u32, value: u32) {
+    /// A write, at times through a mirror.
+    pub fn write(&mut self, register: u32, value: u32) {
+        let address = self.address_of(register);
         self.push(Record::Write { address, value });
+    }
+
+    /// A register's address, or at times a mirror of it.
+    fn address_of(&mut self, register: u32) -> u32 {
+        if self.random.once_in(3) {
+            in_any_copy(self.random, register)
+        } else {
+            register
+        }
     }
 
     fn rdram(&self) -> usize {
@@ -236,8 +247,9 @@ impl<'a> Traffic<'a> {
         }
     }
 
-    /// A read, mostly with the right expectation.
-    fn read(&mut self, address: u32) {
+    /// A read, at times through a mirror, mostly with the right expectation.
+    fn read(&mut self, register: u32) {
+        let address = self.address_of(register);
         let found = calls::read_register(&self.watch.state, address)
             .answer
             .value as u32;

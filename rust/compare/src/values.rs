@@ -3,9 +3,17 @@
 use crate::random::Random;
 use model::machine::REGISTERS;
 use ofersky::State;
+use std::ops::RangeInclusive;
 
 /// The bits of an RDRAM address.
 pub const ADDRESS_BITS: u32 = 0xFF_FFF8;
+
+/// The DP registers and all their mirrors.
+const DP_BLOCK: RangeInclusive<u32> = 0x0410_0000..=0x041F_FFFF;
+
+/// The bytes of one copy of the DP registers, and the number of copies.
+const COPY_BYTES: u32 = 0x20;
+pub const COPIES: u32 = 0x8000;
 
 /// An RDRAM address, often near 0, near the lent length or near 2^24.
 pub fn ram_address(random: &mut Random, rdram: usize) -> u32 {
@@ -124,7 +132,7 @@ pub fn value_for(random: &mut Random, address: u32, rdram: usize) -> u32 {
     if random.once_in(3) {
         return register_value(random);
     }
-    match address & 0x000F_FFFF {
+    match first_copy(address) & 0x000F_FFFF {
         0x4_0000 => sp_address(random),
         0x4_0008 | 0x4_000C => length_word(random),
         0x4_0004 | 0..=4 => ram_address(random, rdram) | random.word() & 7,
@@ -132,8 +140,41 @@ pub fn value_for(random: &mut Random, address: u32, rdram: usize) -> u32 {
     }
 }
 
+/// The same place in this copy of the DP registers, for an address of theirs; an SP register has no mirrors.
+pub fn in_copy(address: u32, copy: u32) -> u32 {
+    if DP_BLOCK.contains(&address) {
+        DP_BLOCK.start() + COPY_BYTES * copy + address % COPY_BYTES
+    } else {
+        address
+    }
+}
+
+pub fn first_copy(address: u32) -> u32 {
+    in_copy(address, 0)
+}
+
+/// In any copy, often the second or the last.
+pub fn in_any_copy(random: &mut Random, address: u32) -> u32 {
+    let copy = match random.below(4) {
+        0 => 1,
+        1 => COPIES - 1,
+        _ => random.below(u64::from(COPIES)) as u32,
+    };
+    in_copy(address, copy)
+}
+
+pub fn is_register(address: u32) -> bool {
+    REGISTERS.contains(&first_copy(address))
+}
+
+/// A register's address, at times in a mirror.
 pub fn register(random: &mut Random) -> u32 {
-    random.pick(&REGISTERS)
+    let address = random.pick(&REGISTERS);
+    if random.once_in(2) {
+        in_any_copy(random, address)
+    } else {
+        address
+    }
 }
 
 /// A tick, often one that takes a counter near 2^24 past it.
@@ -155,7 +196,7 @@ pub fn not_register(random: &mut Random) -> u32 {
     }
 }
 
-/// An address that is not a multiple of 4: within the blocks of registers or outside.
+/// An address that is not a multiple of 4: within the blocks of registers, mirrors too, or outside.
 fn misaligned(random: &mut Random) -> u32 {
     let word = if random.once_in(2) {
         register(random)
@@ -165,18 +206,19 @@ fn misaligned(random: &mut Random) -> u32 {
     word + 1 + random.below(3) as u32
 }
 
-/// A multiple of 4 that is no register's address: beside the registers, a mirror, or any.
+/// A multiple of 4 that is no register's address: beside the blocks, or any.
 fn outside(random: &mut Random) -> u32 {
-    let far = [0, 0xFFFF_FFFC, 0x0404_0020, 0x0410_0020, 0x0403_FFFC];
+    let beside = [0x0403_FFFC, 0x0404_0020, 0x040F_FFFC, 0x0420_0000];
+    let far = [0, 0x0404_0040, 0x0407_FFE0, 0xFFFF_FFFC];
     loop {
         let near = register(random);
         let address = match random.below(4) {
             0 => near - 0x20 + random.below(16) as u32 * 4,
             1 => near ^ 4 << random.below(30),
-            2 => random.pick(&far),
+            2 => random.pick(&[beside, far].concat()),
             _ => random.word() & !3,
         };
-        if !REGISTERS.contains(&address) {
+        if !is_register(address) {
             return address;
         }
     }
@@ -190,7 +232,7 @@ pub fn unknown_kind(random: &mut Random) -> u8 {
     }
 }
 
-/// The first and last address of each block, those beside them and their mirrors.
+/// The first and last address of each block and of the first and last mirrors, those beside them, and farther ones with the same low bits.
 pub fn edge_addresses() -> Vec<u32> {
     let edges = [
         0,
@@ -203,10 +245,12 @@ pub fn edge_addresses() -> Vec<u32> {
         0x0404_001C,
         0x0410_0000,
         0x0410_001C,
+        0x041F_FFE0,
+        0x041F_FFFC,
     ];
-    let mirrors = [0x1000, 0x2000, -0x1000, 0x2000_0000, -0x6000_0000, i32::MIN];
+    let same_low_bits = [0x1000, 0x2000, -0x1000, 0x2000_0000, -0x6000_0000, i32::MIN];
     let farther = [-0x20, 0x20, 0x21, 0x24, 0x40, 0x1002];
-    let steps = (-9..=9).chain(farther).chain(mirrors);
+    let steps = (-9..=9).chain(farther).chain(same_low_bits);
     let beside = |edge: u32| {
         steps
             .clone()

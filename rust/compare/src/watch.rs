@@ -2,6 +2,7 @@
 
 use crate::events::{Event, Events};
 use crate::memory::BANK;
+use crate::values::first_copy;
 use model::calls::{self, State};
 use model::machine::*;
 use model::recording::Record;
@@ -97,7 +98,7 @@ impl Watch {
         self.state = calls::write_register(&self.state, address, value).state;
         let (sp, full) = (&before.sp, before.sp.full == 1);
         let events = &mut self.events;
-        match address {
+        match first_copy(address) {
             SP_SPADDR | SP_RAMADDR => events.see_if(full, Event::LatchWhileFull),
             SP_RDLEN | SP_WRLEN => {
                 events.see_if(sp.busy == 0, Event::TransferBegan);

@@ -94,7 +94,8 @@ fn addresses_beside_the_registers() {
     let mut random = Random::of_test(23);
     let mut comparison = Comparison::new("call");
     let near = |base: u32| base - 0x10..base + 0x50;
-    for address in near(0x0404_0000).chain(near(0x0410_0000)) {
+    let blocks = near(0x0404_0000).chain(near(0x0410_0000));
+    for address in blocks.chain(near(0x041F_FFE0)) {
         for _ in 0..20 {
             let state = sound(&mut random, 4_096);
             let value = register_value(&mut random);
@@ -113,6 +114,7 @@ fn addresses_beside_the_registers() {
     for call in ["read_register", "write_register"] {
         comparison.totals.expect_numbers(call, &[0, 4, 5, 10], 300);
         comparison.totals.expect_misaligned(call, 1_000);
+        comparison.totals.expect_mirrors(call, 300);
     }
     done("addresses beside the registers", &comparison.totals);
 }
@@ -352,6 +354,7 @@ fn reading_records() {
     totals.expect_numbers("read_record", &[0, 5, 6, 7, 8, 10], 200);
     totals.expect_numbers("read_record", &[9], 16);
     totals.expect_misaligned("read_record", 50);
+    totals.expect_mirrors("read_record", 200);
     done("reading records", totals);
 }
 

@@ -130,6 +130,7 @@ fn expect_traffic(totals: &Totals, least: u64) {
     for (byte, seen) in totals.events.first_bytes.iter().enumerate() {
         assert!(*seen >= least, "0x{byte:02X} was framed {seen} times");
     }
+    totals.expect_mirrors("replay", 10_000);
 }
 
 #[test]

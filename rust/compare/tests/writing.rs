@@ -148,6 +148,7 @@ fn any_records() {
     totals.expect_numbers("write_record", &[0, 5, 6, 7, 14], 4_000);
     totals.expect_numbers("write_record", &[10], 2_000);
     totals.expect_misaligned("write_record", 1_000);
+    totals.expect_mirrors("write_record", 1_000);
     writer.expect_kinds(2_000);
     for edge in writer.edges {
         let refused = edge.refused_before;

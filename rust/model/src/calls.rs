@@ -320,7 +320,8 @@ pub fn is_sound(state: &State) -> bool {
     without_memory(state).is_ok()
 }
 
-/// Reads a register. A read of SEMAPHORE changes the state.
+/// Reads a register by any of its addresses. A read of SEMAPHORE changes the
+/// state.
 pub fn read_register(state: &State, address: u32) -> Outcome {
     let done = without_memory(state).and_then(|mut machine| {
         let value = machine.read(address)?;
@@ -329,6 +330,7 @@ pub fn read_register(state: &State, address: u32) -> Outcome {
     outcome(state, done)
 }
 
+/// Writes a register by any of its addresses.
 pub fn write_register(state: &State, address: u32, value: u32) -> Outcome {
     let done = without_memory(state).and_then(|mut machine| {
         machine.write(address, value)?;

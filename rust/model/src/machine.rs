@@ -5,7 +5,7 @@
 
 use std::ops::{Deref, DerefMut};
 
-/// The number for an address that is not one of the sixteen registers.
+/// The number for a multiple of 4 at which no register stands.
 pub const NOT_A_REGISTER: u32 = 5;
 /// The number for a register address that is not a multiple of 4.
 pub const NOT_ALIGNED: u32 = 10;
@@ -27,7 +27,8 @@ pub const DP_CMD_BUSY: u32 = 0x0410_0014;
 pub const DP_PIPE_BUSY: u32 = 0x0410_0018;
 pub const DP_TMEM_BUSY: u32 = 0x0410_001C;
 
-/// The sixteen registers in the order of their addresses.
+/// The sixteen registers in the order of their addresses; those of the DP by
+/// their first copy.
 pub const REGISTERS: [u32; 16] = [
     SP_SPADDR,
     SP_RAMADDR,
@@ -47,16 +48,29 @@ pub const REGISTERS: [u32; 16] = [
     DP_TMEM_BUSY,
 ];
 
-/// The number for an address that no register has: 10 for every one that is
-/// not a multiple of 4, in a block or far from both, and 5 for the rest.
-pub fn check_register(address: u32) -> Result<(), u32> {
+/// The eight DP registers repeat from 0x04100000 to this address.
+const DP_RANGE_LAST: u32 = 0x041F_FFFF;
+/// Bytes from one copy of them to the next.
+const DP_COPY_BYTES: u32 = 0x20;
+
+/// The register at an address, as one of `REGISTERS`. A mirror of a DP register
+/// is that register; the SP registers have no mirrors. The number is 10 for
+/// every address that is not a multiple of 4, wherever it lies, and 5 for the
+/// others at which no register stands.
+pub fn register_at(address: u32) -> Result<u32, u32> {
     if address % 4 != 0 {
         return Err(NOT_ALIGNED);
     }
-    if !REGISTERS.contains(&address) {
-        return Err(NOT_A_REGISTER);
+    match address {
+        SP_SPADDR..=SP_SEMAPHORE => Ok(address),
+        DP_START..=DP_RANGE_LAST => Ok(DP_START + (address - DP_START) % DP_COPY_BYTES),
+        _ => Err(NOT_A_REGISTER),
     }
-    Ok(())
+}
+
+/// The number for an address at which no register stands, 10 or 5.
+pub fn check_register(address: u32) -> Result<(), u32> {
+    register_at(address).map(|_| ())
 }
 
 /// Bytes in DMEM, and in IMEM.
@@ -431,10 +445,9 @@ impl<M> Machine<M> {
         self.sp.is_sound() && self.dp.is_sound()
     }
 
-    /// Reads a register, or gives the number 10 or 5.
+    /// Reads a register by any of its addresses, or gives the number 10 or 5.
     pub fn read(&mut self, address: u32) -> Result<u32, u32> {
-        check_register(address)?;
-        Ok(match address {
+        Ok(match register_at(address)? {
             SP_SPADDR => self.sp.spaddr,
             SP_RAMADDR => self.sp.ramaddr,
             SP_RDLEN | SP_WRLEN => self.sp.length(),
@@ -450,15 +463,14 @@ impl<M> Machine<M> {
             DP_CMD_BUSY => self.dp.cmd_busy_counter,
             DP_PIPE_BUSY => self.dp.pipe_busy_counter,
             DP_TMEM_BUSY => self.dp.tmem_busy_counter,
-            _ => unreachable!("checked to be one of the sixteen"),
+            _ => unreachable!("always one of the sixteen"),
         })
     }
 
-    /// Writes a register, or gives the number 10 or 5. Writes to the registers
-    /// that can only be read succeed and do nothing.
+    /// Writes a register by any of its addresses, or gives the number 10 or 5.
+    /// Writes to the registers that can only be read succeed and do nothing.
     pub fn write(&mut self, address: u32, value: u32) -> Result<(), u32> {
-        check_register(address)?;
-        match address {
+        match register_at(address)? {
             SP_SPADDR => self.sp.spaddr_latch = value & SP_ADDRESS_BITS,
             SP_RAMADDR => self.sp.ramaddr_latch = value & ADDRESS_BITS,
             SP_RDLEN => self.sp.write_length(value, false),
@@ -470,7 +482,7 @@ impl<M> Machine<M> {
             DP_END => self.dp.write_end(value),
             DP_STATUS => self.dp.write_status(value),
             DP_CURRENT | DP_CLOCK | DP_CMD_BUSY | DP_PIPE_BUSY | DP_TMEM_BUSY => {}
-            _ => unreachable!("checked to be one of the sixteen"),
+            _ => unreachable!("always one of the sixteen"),
         }
         Ok(())
     }

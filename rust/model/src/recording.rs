@@ -28,7 +28,8 @@ const DMEM_BASE: u32 = 0x0400_0000;
 const IMEM_BASE: u32 = DMEM_BASE + BANK_BYTES;
 const BANKS_END: u32 = IMEM_BASE + BANK_BYTES;
 
-/// One record, in the order of the kinds 1 to 9.
+/// One record, in the order of the kinds 1 to 9. An address is kept as recorded,
+/// be it a register's first one or a mirror's.
 #[derive(Clone, Copy, Debug, PartialEq, Eq)]
 pub enum Record {
     Write { address: u32, value: u32 },

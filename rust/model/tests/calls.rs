@@ -450,6 +450,9 @@ fn refusal_10_is_for_each_misaligned_address_and_5_for_the_rest() {
     for address in REGISTERS {
         expect_address(address, 0);
     }
+    for (address, _) in MIRRORS {
+        expect_address(address, 0);
+    }
 }
 
 /// Every address near an edge, by its last bits.
@@ -461,12 +464,13 @@ fn refusals_10_and_5_have_their_edges() {
         0x0404_0010,
         0x040F_FFF0,
         0x0410_0010,
+        0x041F_FFF0,
         u32::MAX - 16,
     ];
     for address in bases.iter().flat_map(|base| *base..=base + 16) {
-        let number = match address % 4 {
-            0 if REGISTERS.contains(&address) => 0,
-            0 => 5,
+        let number = match (address % 4, address) {
+            (0, 0x0404_0000..=0x0404_001C | 0x0410_0000..=0x041F_FFFC) => 0,
+            (0, _) => 5,
             _ => 10,
         };
         expect_address(address, number);

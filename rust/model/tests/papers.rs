@@ -280,13 +280,14 @@ fn a_difference_is_a_line_and_no_refusal() {
 fn refusals_10_and_5_have_their_edges() {
     let allowed = |address: u32| {
         (0x0404_0000..=0x0404_001C).contains(&address)
-            || (0x0410_0000..=0x0410_001C).contains(&address)
+            || (0x0410_0000..=0x041F_FFFC).contains(&address)
     };
     for base in [
         0x0403_FFF0,
         0x0404_0010,
         0x040F_FFF0,
         0x0410_0010,
+        0x041F_FFF0,
         0xFFFF_FFF0,
     ] {
         for ahead in 0..=0x10 {

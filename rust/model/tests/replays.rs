@@ -152,7 +152,8 @@ fn a_record_cut_short_comes_before_its_address() {
 #[test]
 fn the_reader_refuses_addresses_of_registers() {
     for kind in [1, 2] {
-        for address in REGISTERS {
+        let mirrors = MIRRORS.map(|(address, _)| address);
+        for address in REGISTERS.into_iter().chain(mirrors) {
             let bytes = record(kind, address, &[0; 4]);
             assert_eq!(read_record(&bytes, 0), reading(kind, address, 0, 9));
         }
@@ -248,9 +249,11 @@ fn with_bad_record(bad: &[u8]) -> Vec<u8> {
 fn a_replay_stops_at_the_declined_record() {
     let bads = [
         (record(1, 0x0404_0020, &[0; 4]), 5),
+        (record(2, 0x0420_0000, &[0; 4]), 5),
         (record(2, 0, &[0; 4]), 5),
         (record(1, 0x0404_0001, &[0; 4]), 10),
         (record(2, 0x0410_001E, &[0; 4]), 10),
+        (record(1, 0x041F_FFFE, &[0; 4]), 10),
         (record(2, 0xFFFF_FFFF, &[0; 4]), 10),
         (record(8, 0x03F0_0000, &[0; 8]), 6),
         (record(9, 4, &[0; 8]), 6),

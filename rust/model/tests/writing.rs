@@ -215,16 +215,17 @@ fn a_misaligned_address_gives_10_and_one_outside_5_with_or_without_room() {
     }
 }
 
-/// Kinds 1 and 2 have one of the sixteen registers.
+/// Kinds 1 and 2 have one of the sixteen registers, by any of its addresses.
 #[test]
 fn an_address_of_no_register_is_refused_with_or_without_room() {
-    let blocks = [0x0404_0000, 0x0410_0000];
-    let near = blocks.map(|base| base - 0x24..base + 0x44);
+    let blocks = [0x0404_0000..=0x0404_001F, 0x0410_0000..=0x041F_FFFF];
+    let edges: [u32; 3] = [0x0404_0000, 0x0410_0000, 0x0420_0000];
+    let near = edges.map(|edge| edge - 0x24..edge + 0x44);
     let far = [0, 8, 0x0400_0000, 0x1404_0000, 0x0414_0000, 0xFFFF_FFFC];
     let mut registers = 0;
     for address in near.into_iter().flatten().chain(far) {
-        let inside = |base: u32| (base..=base + 0x1F).contains(&address);
-        let register = address % 4 == 0 && blocks.into_iter().any(inside);
+        let inside = blocks.iter().any(|block| block.contains(&address));
+        let register = address % 4 == 0 && inside;
         registers += u32::from(register);
         for kind in [1, 2] {
             let given = (kind, address, WORD);
@@ -238,7 +239,8 @@ fn an_address_of_no_register_is_refused_with_or_without_room() {
             }
         }
     }
-    assert_eq!(registers, 16);
+    // The SP's 8, then 17 from 0x04100000 on, 9 before 0x04200000 and a far one.
+    assert_eq!(registers, 8 + 17 + 9 + 1);
 }
 
 /// Kinds 8 and 9 have multiples of 8 in two ranges.

@@ -152,12 +152,12 @@ pub fn is_sound(state: State) -> bool {
     unsafe { raw::ofersky_is_sound(state) }
 }
 
-/// Reads a register. Refusals: 4, 10, 5.
+/// Reads a register, by its address or a mirror of it. Refusals: 4, 10, 5.
 pub fn read_register(state: State, address: u32) -> Outcome {
     unsafe { raw::ofersky_read_register(state, address) }
 }
 
-/// Writes a register. Refusals: 4, 10, 5.
+/// Writes a register, by its address or a mirror of it. Refusals: 4, 10, 5.
 ///
 /// ```
 /// let refusal = |address| ofersky::write_register(ofersky::power_up(), address, 0).answer.number;

@@ -13,6 +13,9 @@ const MANY_SP_WORDS: u32 = 1_200_000;
 const DMEM: u32 = 0x0400_0000;
 const IMEM: u32 = 0x0400_1000;
 const ALL: u32 = 0xFFFF_FFFF;
+/// The DP registers stand in this many copies, this many bytes apart.
+const DP_COPIES: u32 = 0x8000;
+const DP_COPY_BYTES: u32 = 0x20;
 /// The bits of an RDRAM address and of an SP address that a register keeps.
 const RAM_BITS: u32 = 0x00FF_FFF8;
 const SP_BITS: u32 = 0x1FF8;
@@ -73,6 +76,9 @@ impl Random {
 
 struct Generator {
     random: Random,
+    /// Chooses the mirrors and nothing else, so that all other choices of a
+    /// seed are the same with mirrors and without.
+    mirrors: Random,
     machine: Machine,
     bytes: Vec<u8>,
     limit: usize,
@@ -102,12 +108,31 @@ impl Generator {
         assert!(self.machine.is_sound());
     }
 
-    fn write(&mut self, address: u32, value: u32) {
+    /// An address of a register: its first one, but for about one in three of
+    /// those of the DP a mirror's. The first mirror, the last one and those a
+    /// power of two away are chosen more often than others.
+    fn address_of(&mut self, register: u32) -> u32 {
+        let random = &mut self.mirrors;
+        if register < DP_START || !random.once_in(3) {
+            return register;
+        }
+        let copy = match random.below(4) {
+            0 => 1,
+            1 => DP_COPIES - 1,
+            2 => 1 << random.below(15),
+            _ => 1 + random.below(DP_COPIES - 1),
+        };
+        register + copy * DP_COPY_BYTES
+    }
+
+    fn write(&mut self, register: u32, value: u32) {
+        let address = self.address_of(register);
         self.put(Record::Write { address, value });
     }
 
     /// A read that expects what it will find, but for about one in eight.
-    fn read(&mut self, address: u32) {
+    fn read(&mut self, register: u32) {
+        let address = self.address_of(register);
         let mut expected = self.machine.clone().read(address).expect("a register");
         if self.random.once_in(8) {
             expected ^= 1 << self.random.below(32);
@@ -797,6 +822,7 @@ const SEQUENCES: [Sequence; 22] = [
 fn generate(seed: u64, limit: usize) -> Vec<u8> {
     let mut generator = Generator {
         random: Random::new(seed),
+        mirrors: Random::new(!seed),
         machine: Machine::new(RDRAM_BYTES),
         bytes: Vec::new(),
         limit,

@@ -7,9 +7,10 @@ use model::calls::*;
 /// Bytes of DMEM, and of IMEM.
 pub const BANK: usize = 4_096;
 
-/// Addresses that are not multiples of 4: in the SP block, in the DP block,
-/// just outside them and far away. A register call gives 10 for each.
-pub const MISALIGNED: [u32; 24] = [
+/// Addresses that are not multiples of 4: in the SP block, in the DP block, in
+/// its mirrors, just outside them and far away. A register call gives 10 for
+/// each.
+pub const MISALIGNED: [u32; 32] = [
     0x0404_0001,
     0x0404_0002,
     0x0404_0003,
@@ -21,13 +22,21 @@ pub const MISALIGNED: [u32; 24] = [
     0x0410_000E,
     0x0410_001E,
     0x0410_001F,
+    0x0410_0021,
+    0x0410_0023,
+    0x0414_0002,
+    0x041F_FFE1,
+    0x041F_FFFD,
+    0x041F_FFFE,
+    0x041F_FFFF,
     0x0403_FFFE,
     0x0403_FFFF,
     0x0404_0021,
     0x0404_0022,
     0x040F_FFFF,
-    0x0410_0021,
-    0x0410_0023,
+    0x0420_0001,
+    0x0420_0002,
+    0x0420_0003,
     0x0000_0001,
     0x0000_0002,
     0x0000_0007,
@@ -36,8 +45,9 @@ pub const MISALIGNED: [u32; 24] = [
     0xFFFF_FFFF,
 ];
 
-/// Multiples of 4 outside both blocks. A register call gives 5 for each.
-pub const OUTSIDE: [u32; 14] = [
+/// Multiples of 4 outside the SP block and the DP mirrors. A register call gives
+/// 5 for each.
+pub const OUTSIDE: [u32; 20] = [
     0x0000_0000,
     0x0000_0004,
     0x0000_0008,
@@ -45,13 +55,42 @@ pub const OUTSIDE: [u32; 14] = [
     0x0403_FFFC,
     0x0404_0020,
     0x0404_0024,
+    0x0404_003C,
+    0x0404_0040,
+    0x0407_FFE0,
+    0x040F_FFE0,
     0x040F_FFFC,
-    0x0410_0020,
-    0x0410_0024,
-    0x0414_0000,
+    0x0420_0000,
+    0x0420_0004,
+    0x0420_001C,
+    0x0430_0000,
     0x1404_0000,
     0x8410_0004,
+    0xA410_0000,
     0xFFFF_FFFC,
+];
+
+/// Addresses in mirrors of the DP registers, each with the register's first
+/// address.
+pub const MIRRORS: [(u32, u32); 18] = [
+    (0x0410_0020, 0x0410_0000),
+    (0x0410_0024, 0x0410_0004),
+    (0x0410_0028, 0x0410_0008),
+    (0x0410_002C, 0x0410_000C),
+    (0x0410_0030, 0x0410_0010),
+    (0x0410_0034, 0x0410_0014),
+    (0x0410_0038, 0x0410_0018),
+    (0x0410_003C, 0x0410_001C),
+    (0x0414_0000, 0x0410_0000),
+    (0x0414_001C, 0x0410_001C),
+    (0x041F_FFE0, 0x0410_0000),
+    (0x041F_FFE4, 0x0410_0004),
+    (0x041F_FFE8, 0x0410_0008),
+    (0x041F_FFEC, 0x0410_000C),
+    (0x041F_FFF0, 0x0410_0010),
+    (0x041F_FFF4, 0x0410_0014),
+    (0x041F_FFF8, 0x0410_0018),
+    (0x041F_FFFC, 0x0410_001C),
 ];
 
 /// A state and memories of its own, which the calls are lent.
