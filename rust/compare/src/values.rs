@@ -232,7 +232,7 @@ pub fn unknown_kind(random: &mut Random) -> u8 {
     }
 }
 
-/// The first and last address of each block and of the first and last mirrors, those beside them, and farther ones with the same low bits.
+/// The first and last address of each block, in the DP's of the first and the last copy; those beside them; and farther ones with the same low bits.
 pub fn edge_addresses() -> Vec<u32> {
     let edges = [
         0,

@@ -105,6 +105,7 @@ fn calls_as_at_the_first_copy() {
     }
     for call in ["read_register", "write_register"] {
         comparison.totals.expect_numbers(call, &[0, 4, 10], 1_000);
+        comparison.totals.expect_mirrors(call, 5_000);
     }
     println!("as at the first copy: {}", comparison.totals.calls_line());
 }
