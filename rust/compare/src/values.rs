@@ -101,7 +101,7 @@ pub fn budget(random: &mut Random, left: u64) -> u32 {
         3 => 2,
         4 | 5 => left,
         6 => left.wrapping_sub(1),
-        7 => left + 1,
+        7 => left.wrapping_add(1),
         8 => u32::MAX,
         9 => 0x8000_0000 | random.word(),
         _ => random.below(u64::from(left.min(300)) + 2) as u32,
