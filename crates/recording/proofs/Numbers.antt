@@ -108,7 +108,7 @@ record-given s =
       mappedNumber = g .byRegister;
       memoryNumber = g .byMemory;
       success = g .byNone;
-      asBefore = g .asOne;
+      fiveForBoth = g .asOne;
     }
 
 -- ---- The number of a reading

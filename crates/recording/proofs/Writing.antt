@@ -146,7 +146,7 @@ write-numbers f at n =
       roomNumber = g .byRoom;
       success = g .byNone;
       noOther = g .others;
-      asBefore = g .asOne;
+      fiveForBoth = g .asOne;
     }
 
 -- ---- What the number 0 says of the record

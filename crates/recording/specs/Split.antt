@@ -59,8 +59,8 @@ pub record RecordGiven (s : List ℕ) : Type 0 where
   pub memoryNumber : eqb (recordNumber s) 6 ≡ whole s && storesOrChecks (kindOf s) && not (memoryAllowed (four s 1))
   pub success : eqb (recordNumber s) 0
       ≡ whole s && implies (accesses (kindOf s)) (isRegister (registerAt (four s 1))) && implies (storesOrChecks (kindOf s)) (memoryAllowed (four s 1))
-  -- With 10 read as 5 it is what it was when 5 stood for both
-  pub asBefore : tenAsFive (recordNumber s)
+  -- With 10 read as 5 it is what 5 for both would give
+  pub fiveForBoth : tenAsFive (recordNumber s)
       ≡ check (ltb 0 (length s)) 8
       (check (isKind (kindOf s)) 7
       (check (leb (size (kindOf s)) (length s)) 8

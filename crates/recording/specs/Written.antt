@@ -42,8 +42,8 @@ pub record WriteNumbers (f : Fields) (at n : ℕ) : Type 0 where
       || eqb (writeNumber f at n) 10
       || eqb (writeNumber f at n) 14
       ≡ true
-  -- With 10 read as 5 it is what it was when 5 stood for both
-  pub asBefore : tenAsFive (writeNumber f at n)
+  -- With 10 read as 5 it is what 5 for both would give
+  pub fiveForBoth : tenAsFive (writeNumber f at n)
       ≡ check (isKind (f .kind)) 7
       (check (implies (accesses (f .kind)) (isRegister (registerAt (f .address)))) 5
       (check (implies (storesOrChecks (f .kind)) (memoryAllowed (f .address))) 6
