@@ -1,5 +1,5 @@
-/* Loads two words to the end of IMEM, where the second wraps to its start; then writes the same traffic as a recording, replays it, and replays it
- * again with a bad address.
+/* Loads two words to the end of IMEM, where the second wraps to its start; then writes the same traffic as a recording and replays it: as it is, with a
+ * wrong expectation, without the read, and with a bad address. Each replay's verdict is shown.
  *
  *     rt staticlib ofersky
  *     cc -I c c/example.c target/staticlib/libofersky.a -o example && ./example
@@ -30,13 +30,32 @@ static void calls(void) {
     printf("refused by %u\n", ofersky_tick(ran.state, 1).answer.number);
 }
 
-/* Replays a recording from power-up and shows its listing. */
-static ofersky_replayed replayed(const uint8_t *bytes, size_t length) {
+/* What a replay says of its recording. Only OFERSKY_PASSED is a pass. */
+static void show_verdict(ofersky_replayed done) {
+    ofersky_findings found = done.findings;
+    switch (ofersky_verdict(done)) {
+    case OFERSKY_PASSED:
+        printf("passed: %u compared\n", found.compared);
+        break;
+    case OFERSKY_DIFFERS:
+        printf("differs: %u of %u compared, first record %u at byte %zu\n", found.differed, found.compared, found.first_index, found.first_place);
+        break;
+    case OFERSKY_NOTHING_COMPARED:
+        printf("nothing compared\n");
+        break;
+    case OFERSKY_REFUSED:
+        printf("refused by %u at byte %zu: %u compared, %u differed\n", done.outcome.answer.number, done.place, found.compared, found.differed);
+        break;
+    }
+}
+
+/* Replays a recording from power-up and shows its listing and its verdict. */
+static void replay(const uint8_t *bytes, size_t length) {
     static uint8_t listing[OFERSKY_LISTING_BYTES];
     ofersky_replayed done = ofersky_replay(ofersky_power_up(), bytes, length, rdram, sizeof rdram, dmem, sizeof dmem, imem, sizeof imem, listing,
                                            sizeof listing);
     fwrite(listing, 1, done.written, stdout);
-    return done;
+    show_verdict(done);
 }
 
 static void recording(void) {
@@ -53,10 +72,12 @@ static void recording(void) {
         if (a.number != 0) printf("record %d: refused by %u\n", i, a.number);
         place = a.value;
     }
-    replayed(bytes, place);
+    replay(bytes, place);
+    bytes[31] = 9; /* the last byte of what the read expects: 0x1009 */
+    replay(bytes, place);
+    replay(bytes, 23); /* the read left out */
     bytes[27] = 2; /* the last byte of the read's address: not a multiple of 4 */
-    ofersky_replayed stopped = replayed(bytes, place);
-    printf("refused by %u at byte %zu\n", stopped.outcome.answer.number, stopped.place);
+    replay(bytes, place);
 }
 
 int main(void) {

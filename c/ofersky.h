@@ -3,8 +3,11 @@
  * Link target/staticlib/libofersky.a, which `rt staticlib ofersky` writes (x86-64 Linux).
  *
  * Every call takes every value of its parameters and answers it. Bad input is refused by the first number that applies: the state comes
- * back as handed in, value and count are 0, and no lent byte differs. What a caller owes is what C always asks: a pointer points to as many
- * bytes as the length beside it says (with length 0 it is still not NULL), and memory that a call may write overlaps nothing else that it is lent.
+ * back as handed in, value and count are 0, and no lent byte differs. A refused replay is the exception: what the records before the refused one
+ * did stays done, the count is their number, and the listing is written.
+ *
+ * What a caller owes is what C always asks: a pointer points to as many bytes as the length beside it says (with length 0 it is still not NULL),
+ * and memory that a call may write overlaps nothing else that it is lent.
  *
  *   0 success                            5 no register stands at the address
  *   1 RDRAM length not allowed           6 memory record address not allowed
@@ -86,11 +89,27 @@ typedef struct {
     uint32_t number;
 } ofersky_reading;
 
+/* What the reads (kind 2) and memory checks (kind 9) of a replay found, over the accepted records, whatever stopped it. All of it is 0 for
+ * 9, 1, 2, 3, 4. */
+typedef struct {
+    uint32_t compared;    /* how many of them were compared with what they expect */
+    uint32_t differed;    /* how many found something else */
+    uint32_t first_index; /* of the first that differed: its index among all records, from 0 on; 0 where none differed */
+    size_t first_place;   /* and the byte of the recording where it begins; 0 where none differed */
+} ofersky_findings;
+
 typedef struct {
     ofersky_outcome outcome; /* its count is the number of accepted records */
     size_t written;          /* bytes of the listing */
     size_t place;            /* the byte of the recording where the refused record begins; 0 after success and for 9, 1, 2, 3, 4 */
+    ofersky_findings findings;
 } ofersky_replayed;
+
+/* The verdicts of replays. No verdict is 0 or the number of a refusal, so that a variable nobody set is no pass. */
+#define OFERSKY_PASSED 100           /* it came to its end, and all that was compared was as expected */
+#define OFERSKY_DIFFERS 101          /* it came to its end, and some of what was compared was not */
+#define OFERSKY_NOTHING_COMPARED 102 /* it came to its end, and nothing was compared */
+#define OFERSKY_REFUSED 103          /* it did not come to its end, whatever was compared before */
 
 /* As many bytes always suffice for a listing. */
 #define OFERSKY_LISTING_BYTES 69204
@@ -132,6 +151,10 @@ ofersky_answer ofersky_write_record(ofersky_record item, uint8_t *buffer, size_t
  * Refusals: 9, 1, 2, 3, 4 before the first record; then its records': 7, 8, 10, 5, 6. */
 ofersky_replayed ofersky_replay(ofersky_state s, const uint8_t *recording, size_t recording_bytes, uint8_t *rdram, size_t rdram_bytes,
                                 uint8_t *dmem, size_t dmem_bytes, uint8_t *imem, size_t imem_bytes, uint8_t *out, size_t out_bytes);
+
+/* The verdict of what a replay gave, for every value of the struct: OFERSKY_REFUSED if its number is not 0; else OFERSKY_DIFFERS if differed is
+ * above 0; else OFERSKY_NOTHING_COMPARED if compared is 0; else OFERSKY_PASSED. */
+uint32_t ofersky_verdict(ofersky_replayed r);
 
 #ifdef __cplusplus
 }

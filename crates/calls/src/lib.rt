@@ -1,5 +1,6 @@
 // Every public call, in one place. Each takes every input; what it promises is in machine/specs/Promised.antt, those of the
-// reader and the writer in recording/specs (Reader.antt, Fields.antt, Writer.antt), and that of a replay in playback/specs/Promised.antt.
+// reader and the writer in recording/specs (Reader.antt, Fields.antt, Writer.antt), and those of a replay and its verdict in playback/specs
+// (Promised.antt, Verdict.antt).
 pub use access::acknowledge;
 pub use access::read_register;
 pub use access::sp_break;
@@ -13,6 +14,7 @@ pub use engines::look_ahead;
 pub use engines::sp_run;
 pub use engines::sp_turn;
 pub use player::replay;
+pub use player::verdict;
 pub use reader::read_record;
 pub use writer::fields_of;
 pub use writer::write_record;

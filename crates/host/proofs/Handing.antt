@@ -17,9 +17,11 @@ use Rattle.machine.specs.Sound.{sound}
 use Rattle.machine.specs.Refusals.{Answers}
 use Rattle.host.specs.declared.HostSp.{HostSp}
 use Rattle.host.specs.declared.HostDp.{HostDp}
+use Rattle.playback.specs.Verdict.{judged, codeOf}
 use Rattle.host.specs.declared.HostState.{HostState}
+use Rattle.host.specs.declared.HostOutcome.{HostOutcome}
 use Rattle.host.specs.States.{isFlag, isOn, spFlags, dpFlags, flags, spDecoded, dpDecoded, unsound, decoded, spEncoded, dpEncoded, encoded, handed}
-use Rattle.host.specs.Handing.{FromHost, ToHost, CallFromHost}
+use Rattle.host.specs.Handing.{FromHost, ToHost, CallFromHost, EveryHostVerdict}
 
 -- ---- One flag
 
@@ -185,3 +187,13 @@ call-from-host h n o a = record {
       (λ f. handed-no-flag h o f ∙ rw d);
   made = λ e. handed-flags h o (sound-flags h e);
 }
+
+-- ---- The verdict
+
+pub every-host-verdict : EveryHostVerdict
+unfolding handed
+every-host-verdict h s m d r s′ m′ d′ p s₁ m₁ d₁ g e =
+    let number : r .outcome .answer .number ≡ p .outcome .answer .number =
+    ap (λ (o : HostOutcome). o .answer .number) (g .outcome) ∙ ap (λ (o : Outcome). o .answer .number) (sym (e .outcome)) in
+    let found : r .findings ≡ p .findings = g .findings ∙ sym (e .findings) in
+    λ i. codeOf (judged (number i) (found i))

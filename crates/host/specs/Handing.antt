@@ -2,13 +2,20 @@
 use Prim.Native.Nat.{ℕ, suc}
 use mathlib.Core.Path.{_≡_}
 use mathlib.Core.Bool.{true, false}
+use mathlib.Core.List.{List}
+use Rattle.words.specs.Memory.{Memory}
 use Rattle.machine.specs.declared.State.{State}
 use Rattle.machine.specs.declared.Outcome.{Outcome}
 use Rattle.machine.specs.Sound.{sound}
 use Rattle.machine.specs.Refusals.{Answers}
+use Rattle.playback.specs.declared.Replayed.{Replayed}
+use Rattle.playback.specs.Promised.{ReplayGives}
+use Rattle.playback.specs.Verdict.{verdict, codeOf}
 use Rattle.host.specs.declared.HostState.{HostState}
 use Rattle.host.specs.declared.HostOutcome.{HostOutcome}
+use Rattle.host.specs.declared.HostReplayed.{HostReplayed}
 use Rattle.host.specs.States.{flags, decoded, encoded, handed}
+use Rattle.host.specs.Promised.{HostReplayGives, hostVerdict}
 
 -- Of whatever bytes a host hands over
 pub record FromHost (h : HostState) : Type 0 where
@@ -34,3 +41,9 @@ pub record CallFromHost (h : HostState) (n : ℕ) (o : Outcome) : Type 0 where
   pub declined : (k : ℕ) → n ≡ suc k → handed h o ≡ refusedHost h n
   -- On a state that is sound it is the call itself
   pub made : sound (decoded h) ≡ true → handed h o ≡ encodedOutcome o
+
+-- The verdict on what a host got is the verdict on the replay itself
+abbrev pub EveryHostVerdict : Type 0
+EveryHostVerdict = (h : HostState) (s : List ℕ) (m : Memory) (d : List ℕ) (r : HostReplayed) (s′ : List ℕ) (m′ : Memory) (d′ : List ℕ)
+    → (p : Replayed) (s₁ : List ℕ) (m₁ : Memory) (d₁ : List ℕ)
+    → HostReplayGives h s m d r s′ m′ d′ → ReplayGives (decoded h) s m d p s₁ m₁ d₁ → hostVerdict r ≡ codeOf (verdict p)

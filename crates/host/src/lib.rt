@@ -1,5 +1,6 @@
 // The calls as host programs see them: structs of numbers and bytes that C and Rust can lay out. The definitions are in specs/; `ofersky` has the code.
 use machine::Answer;
+use playback::Findings;
 use recording::Fields;
 
 // The registers of the SP engine. A flag is a byte, 0 or 1; any other byte makes the state unsound.
@@ -78,10 +79,12 @@ pub struct HostReading {
     pub number: u32,
 }
 
-// What a replay gives: how many bytes of the listing were written, and the place where the declined record begins, 0 if there is none.
+// What a replay gives: how many bytes of the listing were written, the place where the declined record begins, 0 if there is none, and what its reads
+// and checks found.
 #[repr(C)]
 pub struct HostReplayed {
     pub outcome: HostOutcome,
     pub written: usize,
     pub place: usize,
+    pub findings: Findings,
 }

@@ -1,3 +1,5 @@
 pub mod Putting
 pub mod Lengths
 pub mod Numerals
+pub mod TakenApart
+pub mod Summary

@@ -1,2 +1,4 @@
 pub mod Text
 pub mod Put
+pub mod TakenApart
+pub mod Summary

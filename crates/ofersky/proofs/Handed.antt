@@ -1,13 +1,11 @@
 -- What a call for a host gives, out of what the calls in its body give.
 use Prim.Native.Nat.{ℕ, _%_}
-use mathlib.Core.Path.{_≡_, refl, ap, _∙_}
+use mathlib.Core.Path.{_≡_, ap, _∙_}
 use mathlib.Core.Bool.{Bool, true, false, cond, _&&_}
 use mathlib.Core.List.{List}
 use lib.Dec.{eqb}
 use lib.ListN.{length}
 use denote.Ref.{RefT}
-use mir.Val.{boolByte}
-use Rattle.words.specs.Bits.{asBit}
 use Rattle.words.specs.Memory.{Memory}
 use Rattle.words.proofs.Bytes.{bytes-length}
 use Rattle.machine.specs.declared.State.{State}
@@ -23,11 +21,6 @@ use Rattle.host.specs.declared.HostPart.{HostPart}
 use Rattle.host.specs.States.{decoded, handed}
 use Rattle.host.specs.Parts.{placed, partHanded}
 use Rattle.host.specs.Promised.{HostReplayGives}
-
--- A flag cast to a byte
-pub flag-byte : (b : Bool) → boolByte b ≡ asBit b
-flag-byte true = refl
-flag-byte false = refl
 
 -- A call that is made on the decoded state
 pub handed-given : (h : HostState) {s : State} {o : Outcome} {r : HostOutcome} (call : State → Outcome)
@@ -62,12 +55,13 @@ look-given h {s} {rdram} {dmem} {r} d g e =
 
 pub replay-given : {h : HostState} {state : State} {s : List ℕ} {m : Memory} {d : List ℕ} {p : Replayed} {r : HostOutcome} {s′ : List ℕ} {m′ : Memory} {d′ : List ℕ}
     → state ≡ decoded h → ReplayGives state s m d p s′ m′ d′ → r ≡ handed h (p .outcome)
-    → HostReplayGives h s m d (record { outcome = r; written = p .written; place = p .place }) s′ m′ d′
+    → HostReplayGives h s m d (record { outcome = r; written = p .written; place = p .place; findings = p .findings }) s′ m′ d′
 replay-given {h} {state} {s} {m} {d} {p} {r} {s′} {m′} {d′} e g o =
     let q : ReplayGives (decoded h) s m d p s′ m′ d′ = rw e at g in
     record {
       outcome = o ∙ ap (handed h) (q .outcome);
       place = q .place;
+      findings = q .findings;
       bytes = q .bytes;
       written = q .written;
       listing = q .listing;

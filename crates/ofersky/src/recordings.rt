@@ -5,6 +5,7 @@ use host::HostReading;
 use host::HostReplayed;
 use host::HostState;
 use machine::Answer;
+use playback::Verdict;
 use recording::Fields;
 use writer::fields_of;
 ghost use mathlib.Core.Path.{_≡_};
@@ -13,7 +14,8 @@ ghost use Rattle.recording.specs.Reader.{readRecord};
 ghost use Rattle.recording.specs.Writer.{WriteRecordGives};
 ghost use Rattle.host.specs.States.{decoded, handed};
 ghost use Rattle.host.specs.Records.{readingHanded};
-ghost use Rattle.host.specs.Promised.{HostReplayGives};
+ghost use Rattle.host.specs.Promised.{HostReplayGives, hostVerdict};
+ghost use Rattle.playback.specs.Verdict.{codeOf};
 
 #[no_mangle]
 pub extern "C" fn ofersky_read_record(recording: &[u8], place: usize) -> HostReading
@@ -52,9 +54,33 @@ pub extern "C" fn ofersky_replay(
     let done = player::replay(decoded(s), recording, rdram, dmem, imem, out);
     let left = done.outcome;
     let outcome = handed(s, left);
+    let findings = done.findings;
     HostReplayed {
         outcome,
         written: done.written,
         place: done.place,
+        findings,
     }
+}
+
+// The code of a verdict. A variable that nobody set holds no verdict: no code is 0.
+fn verdict_code(v: Verdict) -> u32
+    ensures { λ r. ⌜ r ≡ codeOf v ⌝ }
+{
+    match v {
+        Verdict::Refused(_, _, _) => 103,
+        Verdict::Differs(_, _) => 101,
+        Verdict::NothingCompared => 102,
+        Verdict::Passed(_) => 100,
+    }
+}
+
+#[no_mangle]
+pub extern "C" fn ofersky_verdict(r: HostReplayed) -> u32
+    ensures { λ code. ⌜ code ≡ hostVerdict r ⌝ }
+{
+    let outcome = r.outcome;
+    let answer = outcome.answer;
+    let f = r.findings;
+    verdict_code(player::judged(answer.number, f))
 }

@@ -15,11 +15,12 @@ use Rattle.recording.specs.Split.{Split, splitFrom, split}
 use Rattle.recording.specs.Written.{allOf}
 use Rattle.recording.proofs.Appending.{every-append}
 use Rattle.playback.specs.declared.Replayed.{Replayed}
+use Rattle.playback.specs.Findings.{findings}
 use Rattle.playback.specs.Replay.{Played, headed, played, afterAll, replayRefusal}
 use Rattle.playback.specs.Promised.{ReplayGives}
 use Rattle.playback.specs.Appended.{Replays, EveryAppendReplayed, EveryRecordingReplayed}
 use Rattle.playback.proofs.Steps.{replay-begun}
-use Rattle.playback.proofs.Replaying.{refusal-short, begun-outcome, begun-place, begun-memory}
+use Rattle.playback.proofs.Replaying.{refusal-short, begun-outcome, begun-place, begun-findings, begun-memory}
 
 -- A recording whose records are all accepted
 all-replayed : (n : ℕ) (rs : List Record) (s : List ℕ) (state : State) (m : Memory) (out : List ℕ) (r : Replayed) (s′ : List ℕ) (m′ : Memory) (out′ : List ℕ)
@@ -33,6 +34,7 @@ all-replayed n rs s state m out r s′ m′ out′ h x e g =
       number = ap (λ (q : Outcome). q .answer .number) o ∙ ap (λ (y : Split). y .number) x;
       count = ap (λ (q : Outcome). q .answer .count) o ∙ ap (λ (y : Split). length (y .items)) x;
       place = begun-place state s m out r s′ m′ out′ g z ∙ ap (λ (y : Split). ifRefused (y .number) (y .place) 0) x;
+      findings = begun-findings state s m out r s′ m′ out′ g z ∙ ap (λ (y : Split). findings (y .items) w) x;
       leaves = (λ i. world (o i .state) (b i)) ∙ ap (λ (y : Split). afterAll (y .items) w) x;
       text = ap (λ (p : Played). p .text) (replay-begun s w z ∙ ap (λ (y : Split). headed (played y w)) x);
     }

@@ -3,18 +3,17 @@ use mathlib.Core.Path.{_≡_, refl}
 use mathlib.Core.List.{[], _∷_}
 use native.Mathlib.Omega.{arith}
 use lib.ListN.{replicate}
-use Rattle.words.specs.Memory.{memory, bytesAt, loadWord, storeWord, wordValue, wordBytes}
+use Rattle.words.specs.Memory.{bytesAt, loadWord, storeWord, wordValue, wordBytes}
 use Rattle.sp.specs.Transfer.{started, lengthWritten, nextWord, ended}
 use Rattle.sp.specs.Sound.{spSound}
 use Rattle.sp.specs.Turn.{spNext, spAfter, spTaken}
 use Rattle.dp.specs.Sound.{dpSound}
 use Rattle.dp.specs.Turn.{dpTaken, dpAfter}
-use Rattle.machine.specs.Sound.{powerUp, sound}
+use Rattle.machine.specs.Sound.{sound}
 use Rattle.machine.specs.Address.{registerAt}
 use Rattle.machine.specs.Refusals.{accessRefusal, spRefusal, dpRefusal}
 use Rattle.machine.specs.Calls.{readRegister, writeRegister}
 use Rattle.machine.specs.Runs.{spRun, dpRun}
-use Rattle.laws.specs.World.{world}
 use Rattle.recording.specs.declared.Record.the-variants.{Write, Read, SpRun}
 use Rattle.recording.specs.Kinds.{decoded, recordOf}
 use Rattle.recording.specs.Fields.{ofKind, recordBy}
@@ -25,33 +24,35 @@ use Rattle.recording.specs.Written.{Appends}
 use Rattle.recording.specs.Written.Appends.{none, adds}
 use Rattle.listing.specs.Text.{hex, leading, decimal, runLine, verdict, foundLine, endLine, stopLine}
 use Rattle.playback.specs.Effects.{loadAt, storeAt, after, line}
+use Rattle.playback.specs.declared.Verdict.the-variants.{Refused, Passed}
+use Rattle.playback.specs.Findings.{total, firstFrom}
 use Rattle.playback.specs.Replay.{lines, replayRefusal, replay}
+use Rattle.playback.specs.Verdict.{judged}
 use Rattle.playback.specs.Case.{bytes, start, text, stopBytes, stopText}
 
 pub whole-case : (replay bytes start .text ≡ text)
     × (replay bytes start .outcome .answer .number ≡ 0)
     × (replay bytes start .outcome .answer .count ≡ 4)
     × (replay bytes start .place ≡ 0)
+    × (replay bytes start .findings ≡ record { compared = 1; differed = 0; index = 0; place = 0 })
+    × (judged 0 (replay bytes start .findings) ≡ Passed 1)
 unfolding bytes start text replay replayRefusal spRefusal accessRefusal sound spSound dpSound registerAt
     splitFrom recordNumber recordOf decoded lines after line writeRegister readRegister
     spRun spTaken spAfter spNext started lengthWritten nextWord ended
-    runLine foundLine verdict hex decimal leading endLine
-whole-case = (refl, refl, refl, refl)
-
--- 9 before 1: a recording of 16,384 bytes over an RDRAM of one byte
-pub nine-first : replayRefusal (replicate 16384 6) (world powerUp (memory (0 ∷ []) [] [])) ≡ 9
-unfolding replayRefusal spRefusal
-nine-first = refl
+    runLine foundLine verdict hex decimal leading endLine total firstFrom judged
+whole-case = (refl, refl, refl, refl, refl, refl)
 
 pub stop-case : (replay stopBytes start .text ≡ stopText)
     × (replay stopBytes start .outcome .answer .number ≡ 7)
     × (replay stopBytes start .outcome .answer .count ≡ 3)
     × (replay stopBytes start .place ≡ 31)
+    × (replay stopBytes start .findings ≡ record { compared = 1; differed = 1; index = 1; place = 13 })
+    × (judged 7 (replay stopBytes start .findings) ≡ Refused 7 1 1)
 unfolding stopBytes start stopText replay replayRefusal spRefusal dpRefusal sound spSound dpSound
     splitFrom recordNumber recordOf decoded lines after line loadAt storeAt loadWord storeWord bytesAt wordValue wordBytes
     dpRun dpTaken dpAfter
-    runLine foundLine verdict hex decimal leading stopLine
-stop-case = (refl, refl, refl, refl)
+    runLine foundLine verdict hex decimal leading stopLine total firstFrom judged
+stop-case = (refl, refl, refl, refl, refl, refl)
 
 -- The writer makes the case's recording of its four records, in a buffer that has just as many bytes
 pub case-appended : Appends (replicate 32 0) 0 (Write 0x04040000 0x1FF8 ∷ Write 0x04040008 0x0F ∷ SpRun 2 ∷ Read 0x04040000 0x1008 ∷ []) bytes 32

@@ -10,15 +10,12 @@ use lib.ListN.{length}
 use lib.Seq.{ext-getD}
 use borrow.Author.Tests.{ltb-true, ltb-false, leb-true, leb-false, le-leb, eqb-true}
 use Rattle.words.specs.Memory.{Memory, Place, RDRAM, DMEM, IMEM, bytesOf, withBytes, fitted, bytesAt, loadWord, storeWord, wordValue, wordBytes}
-use Rattle.words.proofs.Tests.{by, contradiction, and-true}
+use Rattle.words.proofs.Tests.{by, and-true}
 use Rattle.words.proofs.Bytes.{bytes-length, bytes-at, load-past, store-past, store-length, store-inside, store-outside, with-same, with-place}
-use Rattle.laws.specs.World.{World}
-use Rattle.recording.specs.declared.Record.{Record}
-use Rattle.recording.specs.declared.Record.the-variants.{None, Write, Read, SpRun, DpRun, Tick, Break, Acknowledge, Store, Check}
 use Rattle.recording.specs.Reader.{memoryAllowed}
 use Rattle.recording.proofs.Bytes.{next-byte}
 use Rattle.playback.specs.Effects.{placeAt, offsetAt, loadAt, storeAt, after}
-use Rattle.playback.specs.Stores.{fittedAt, Stores, Edges, keepsMemory, LeftAlone}
+use Rattle.playback.specs.Stores.{fittedAt, Stores, Edges}
 
 -- ---- The bytes of a number
 
@@ -191,20 +188,3 @@ edges =
     }
 
 -- ---- What records leave alone
-
-memory-left : (w : World) (r : Record) → keepsMemory r ≡ true → after r w .memory ≡ w .memory
-unfolding after
-memory-left w None e = refl
-memory-left w (Write a v) e = refl
-memory-left w (Read a v) e = refl
-memory-left w (SpRun budget) e = contradiction e refl
-memory-left w (DpRun budget) e = refl
-memory-left w (Tick n) e = refl
-memory-left w Break e = refl
-memory-left w Acknowledge e = refl
-memory-left w (Store a word) e = contradiction e refl
-memory-left w (Check a word) e = refl
-
-pub left-alone : (w : World) → LeftAlone w
-unfolding after
-left-alone w = record { memory = memory-left w; stateByStore = λ a word. refl; stateByCheck = λ a word. refl }

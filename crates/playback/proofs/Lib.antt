@@ -1,8 +1,12 @@
+pub mod Alone
+pub mod Begins
 pub mod Kept
 pub mod Sounds
+pub mod Found
 pub mod Steps
 pub mod Room
 pub mod Replaying
+pub mod Judging
 pub mod Appended
 pub mod Mirrors
 pub mod Case

@@ -18,15 +18,20 @@ use Rattle.machine.proofs.Refusals.{if-accepted, if-refused}
 use Rattle.laws.specs.World.{World, world}
 use Rattle.recording.specs.declared.Record.{Record}
 use Rattle.recording.specs.Kinds.{Bytes}
+use Rattle.recording.specs.Fields.{recordSize}
 use Rattle.recording.specs.Reader.{longest, readRecord}
 use Rattle.recording.specs.Split.{split}
 use Rattle.recording.proofs.Splitting.{read-on, declined-at, accepted-alone, items-fit, ends-not-nine}
 use Rattle.listing.specs.Text.{Text, header, stopLine}
 use Rattle.playback.specs.declared.Replayed.{Replayed}
+use Rattle.playback.specs.declared.Findings.{Findings}
+use Rattle.playback.specs.Findings.{differed, one, findings, noFindings}
 use Rattle.playback.specs.Replay.{Played, afterAll, lines, lastLine, ending, replayRefusal, replay}
 use Rattle.playback.specs.Promised.{ReplayGives}
 use Rattle.playback.specs.Theorems.{SameLeft, Begun, longestListing, EveryReplay}
-use Rattle.playback.proofs.Steps.{short-enough, replay-begun, replay-not}
+use Rattle.playback.proofs.Found.{no-first, first-differs}
+use Rattle.playback.proofs.Begins.{short-enough}
+use Rattle.playback.proofs.Steps.{replay-begun, replay-not}
 use Rattle.playback.proofs.Room.{listing-size}
 use Rattle.playback.proofs.Sounds.{items-accepted, all-keep-sound, all-keep-lengths, all-succeed}
 
@@ -64,7 +69,7 @@ begins-cut s w last z =
     refusal-short (take last s) w (omega arith) ∙ machine-passes s w z
 
 -- By the number of the checks
-by-refusal : {P : Type 0} (n : ℕ) → (n ≡ 0 → P) → ((k : ℕ) → n ≡ suc k → P) → P
+pub by-refusal : {P : Type 0} (n : ℕ) → (n ≡ 0 → P) → ((k : ℕ) → n ≡ suc k → P) → P
 by-refusal zero f g = f refl
 by-refusal (suc n) f g = g n refl
 
@@ -73,11 +78,13 @@ by-refusal (suc n) f g = g n refl
 module _ (state : State) (s : List ℕ) (m : Memory) (d : List ℕ) (r : Replayed) (s′ : List ℕ) (m′ : Memory) (d′ : List ℕ)
     (g : ReplayGives state s m d r s′ m′ d′) where
   -- One that does not begin
-  not-begun : (n : ℕ) → replayRefusal s (world state m) ≡ suc n → (r .outcome ≡ declined state (suc n)) × (r .place ≡ 0) × (m′ ≡ m)
+  pub not-begun : (n : ℕ) → replayRefusal s (world state m) ≡ suc n
+      → (r .outcome ≡ declined state (suc n)) × (r .place ≡ 0) × (r .findings ≡ noFindings) × (m′ ≡ m)
   not-begun n e =
       let q = replay-not s (world state m) (λ z. omega arith) in (
         g .outcome ∙ ap (λ (x : Played). x .outcome) q ∙ ap (declined state) e,
         g .place ∙ ap (λ (x : Played). x .place) q,
+        g .findings ∙ ap (λ (x : Played). x .findings) q,
         g .bytes ∙ ap (λ (x : Played). x .memory) q,
       )
 
@@ -88,6 +95,9 @@ module _ (state : State) (s : List ℕ) (m : Memory) (d : List ℕ) (r : Replaye
 
   pub begun-place : replayRefusal s (world state m) ≡ 0 → r .place ≡ ifRefused (split s .number) (split s .place) 0
   begun-place z = g .place ∙ ap (λ (x : Played). x .place) (replay-begun s (world state m) z)
+
+  pub begun-findings : replayRefusal s (world state m) ≡ 0 → r .findings ≡ findings (split s .items) (world state m)
+  begun-findings z = g .findings ∙ ap (λ (x : Played). x .findings) (replay-begun s (world state m) z)
 
   pub begun-memory : replayRefusal s (world state m) ≡ 0 → m′ ≡ afterAll (split s .items) (world state m) .memory
   begun-memory z = g .bytes ∙ ap (λ (x : Played). x .memory) (replay-begun s (world state m) z)
@@ -114,7 +124,7 @@ module _ (state : State) (s : List ℕ) (m : Memory) (d : List ℕ) (r : Replaye
   lengths p =
       by-refusal (replayRefusal s (world state m))
       (λ z. rw (begun-memory z) (all-keep-lengths (split s .items) (world state m) p))
-      (λ k n. ap (λ (x : Memory). length (bytesOf p x)) (not-begun k n .2))
+      (λ k n. ap (λ (x : Memory). length (bytesOf p x)) (not-begun k n .3))
 
 -- Its listing is the first line and a `stop` line
 not-text : (s : List ℕ) (w : World) (n : ℕ) → replayRefusal s w ≡ suc n → replay s w .text ≡ header ++ stopLine 0 (suc n) 0
@@ -137,6 +147,10 @@ same-left state s t m d e r q s′ t′ m′ n′ d′ e′ g h y z i =
     let w = world state m in
     record {
       count = ap (λ (o : Outcome). o .answer .count) a ∙ ap length (sym i) ∙ ap (λ (o : Outcome). o .answer .count) (sym b);
+      findings =
+          begun-findings state s m d r s′ m′ d′ g y
+          ∙ ap (λ (rs : List Record). findings rs w) (sym i)
+          ∙ sym (begun-findings state t m e q t′ n′ e′ h z);
       state =
           ap (λ (o : Outcome). o .state) a
           ∙ ap (λ (rs : List Record). afterAll rs w .state) (sym i)
@@ -148,7 +162,7 @@ same-left state s t m d e r q s′ t′ m′ n′ d′ e′ g h y z i =
     }
 
 -- A text that has room stands at the buffer's start
-whole-text : (t d d′ : List ℕ) (n : ℕ) → length t ≤ length d → n ≡ min (length t) (length d) → d′ ≡ take (length d) t ++ drop (length t) d
+pub whole-text : (t d d′ : List ℕ) (n : ℕ) → length t ≤ length d → n ≡ min (length t) (length d) → d′ ≡ take (length d) t ++ drop (length t) d
     → (take n d′ ≡ t) × (drop n d′ ≡ drop n d)
 whole-text t d d′ n h e b =
     let l : n ≡ length t = omega arith in
@@ -178,6 +192,7 @@ module _ (state : State) (s : List ℕ) (m : Memory) (d : List ℕ) (r : Replaye
       let b = begun-memory state s m d r s′ m′ d′ g z in
       let n : r .outcome .answer .number ≡ split s .number = ap (λ (o : Outcome). o .answer .number) o in
       let place = begun-place state s m d r s′ m′ d′ g z in
+      let f = begun-findings state s m d r s′ m′ d′ g z in
       record {
         items = split s .items;
         last = split s .place;
@@ -189,6 +204,13 @@ module _ (state : State) (s : List ℕ) (m : Memory) (d : List ℕ) (r : Replaye
             let same = place ∙ if-refused (split s .number) (split s .place) 0 (λ q. omega (arith, n, e, q)) in
             (same, rw same (there .0), ap (readRecord s) same ∙ there .1);
         noneDeclined = λ e. place ∙ if-accepted (split s .number) (split s .place) 0 (sym n ∙ e);
+        findings = f;
+        firstDiffers = λ k e.
+            let d : differed (split s .items) w ≡ suc k = ap (λ (x : Findings). x .differed) (sym f) ∙ e in
+            rw (n, f) (first-differs s w (split s .items) (split s .place) (split s .number) k h x d);
+        noneDiffers = λ e.
+            let d : differed (split s .items) w ≡ 0 = ap (λ (x : Findings). x .differed) (sym f) ∙ e in
+            rw f (no-first one 0 (split s .items) w d, no-first recordSize 0 (split s .items) w d);
         leaves = λ i. world (o i .state) (b i);
         text =
             ap (λ (x : Played). x .text) (replay-begun s w z)
@@ -220,7 +242,7 @@ every-replay state s m d r s′ m′ d′ bytes g =
     record {
       notBegun = λ n e.
           let p = not-begun state s m d r s′ m′ d′ g n e in
-          (p .0, p .1, p .2, not-text s (world state m) n e);
+          (p .0, p .1, p .2, p .3, not-text s (world state m) n e);
       begun = begun state s m d r s′ m′ d′ bytes g;
       nine = nine state s m d r s′ m′ d′ g;
       others = refusal-short s (world state m);

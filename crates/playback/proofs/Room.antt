@@ -19,7 +19,7 @@ use Rattle.listing.proofs.Lengths.{length-run, length-found, length-end, length
 use Rattle.playback.specs.Effects.{loadAt, replayDpRun, after, line}
 use Rattle.playback.specs.Replay.{lines, lastLine, played, notPlayed, headed, replayRefusal, replay}
 use Rattle.playback.specs.Theorems.{longestListing}
-use Rattle.playback.proofs.Steps.{short-enough}
+use Rattle.playback.proofs.Begins.{short-enough}
 
 -- ---- A line against the bytes of its record
 

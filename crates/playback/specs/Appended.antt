@@ -13,6 +13,7 @@ use Rattle.recording.specs.Split.{split}
 use Rattle.recording.specs.Written.{Appends}
 use Rattle.listing.specs.Text.{header, endLine}
 use Rattle.playback.specs.declared.Replayed.{Replayed}
+use Rattle.playback.specs.Findings.{findings}
 use Rattle.playback.specs.Replay.{afterAll, lines, replay}
 use Rattle.playback.specs.Promised.{ReplayGives}
 
@@ -21,6 +22,7 @@ pub record Replays (rs : List Record) (s : List ℕ) (w : World) (r : Replayed) 
   pub number : r .outcome .answer .number ≡ 0
   pub count : r .outcome .answer .count ≡ length rs
   pub place : r .place ≡ 0
+  pub findings : r .findings ≡ findings rs w
   pub leaves : world (r .outcome .state) m′ ≡ afterAll rs w
   pub text : replay s w .text ≡ header ++ (lines rs w ++ endLine (length rs))
 

@@ -1,7 +1,9 @@
 pub mod Effects
 pub mod Stores
+pub mod Findings
 pub mod Replay
 pub mod Promised
+pub mod Verdict
 pub mod Theorems
 pub mod Appended
 pub mod Mirrors

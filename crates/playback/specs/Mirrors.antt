@@ -43,6 +43,7 @@ pub record SameReplay (state : State) (s : List ℕ) (m : Memory) (r first : Rep
   -- Number, value, count and state
   pub outcome : r .outcome ≡ first .outcome
   pub place : r .place ≡ first .place
+  pub findings : r .findings ≡ first .findings
   pub memory : m′ ≡ m₁
   pub written : r .written ≡ first .written
   pub listing : SameListing (performed s (world state m)) (replay s (world state m) .text) (replay (bytesAtFirstCopy s) (world state m) .text)

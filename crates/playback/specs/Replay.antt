@@ -12,7 +12,9 @@ use Rattle.recording.specs.declared.Record.{Record}
 use Rattle.recording.specs.Reader.{longest}
 use Rattle.recording.specs.Split.{Split, split}
 use Rattle.listing.specs.Text.{Text, header, endLine, stopLine}
+use Rattle.playback.specs.declared.Findings.{Findings}
 use Rattle.playback.specs.Effects.{after, line}
+use Rattle.playback.specs.Findings.{findings, noFindings}
 
 -- What records leave, one after the other
 unfoldable pub afterAll : List Record → World → World
@@ -28,11 +30,12 @@ lines (r ∷ rs) w = line r w ++ lines rs (after r w)
 abbrev pub lastLine : ℕ → ℕ → ℕ → Text
 lastLine number count place = ifRefused number (stopLine count number place) (endLine count)
 
--- How a replay ends: number, value, count and state; the place where the declined record begins, 0 if there is none; every lent byte of memory; the
--- listing
+-- How a replay ends: number, value, count and state; the place where the declined record begins, 0 if there is none; what the accepted records
+-- found; every lent byte of memory; the listing
 pub record Played : Type 0 where
   pub outcome : Outcome
   pub place : ℕ
+  pub findings : Findings
   pub memory : Memory
   pub text : Text
 
@@ -45,6 +48,7 @@ played x w =
     record {
       outcome = ending (afterAll (x .items) w .state) (x .number) (length (x .items));
       place = ifRefused (x .number) (x .place) 0;
+      findings = findings (x .items) w;
       memory = afterAll (x .items) w .memory;
       text = lines (x .items) w ++ lastLine (x .number) (length (x .items)) (x .place);
     }
@@ -55,11 +59,12 @@ replayRefusal s w = check (leb (length s) longest) 9 (spRefusal (w .state) (w .m
 
 -- A replay that does not begin changes nothing
 abbrev pub notPlayed : ℕ → World → Played
-notPlayed number w = record { outcome = declined (w .state) number; place = 0; memory = w .memory; text = stopLine 0 number 0 }
+notPlayed number w =
+    record { outcome = declined (w .state) number; place = 0; findings = noFindings; memory = w .memory; text = stopLine 0 number 0 }
 
 -- The first line goes before
 abbrev pub headed : Played → Played
-headed p = record { outcome = p .outcome; place = p .place; memory = p .memory; text = header ++ p .text }
+headed p = record { outcome = p .outcome; place = p .place; findings = p .findings; memory = p .memory; text = header ++ p .text }
 
 -- The recording s is replayed
 unfoldable pub replay : List ℕ → World → Played

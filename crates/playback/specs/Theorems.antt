@@ -20,6 +20,7 @@ use Rattle.recording.specs.Split.{ReadOn}
 use Rattle.listing.specs.Text.{header, stopLine}
 use Rattle.playback.specs.declared.Replayed.{Replayed}
 use Rattle.playback.specs.Effects.{replayDpRun, after}
+use Rattle.playback.specs.Findings.{differs, differed, findings, noFindings}
 use Rattle.playback.specs.Replay.{afterAll, lines, lastLine, replayRefusal, replay}
 use Rattle.playback.specs.Promised.{ReplayGives}
 
@@ -41,11 +42,24 @@ abbrev pub Succeed : List Record → World → Type 0
 Succeed [] w = Unit {0}
 Succeed (r ∷ rs) w = (callNumber r w ≡ 0) × Succeed rs (after r w)
 
--- Two replays left the same: count, state and memory
+-- Two replays left the same: count, state and memory; and found the same
 pub record SameLeft (r r′ : Replayed) (m m′ : Memory) : Type 0 where
   pub count : r .outcome .answer .count ≡ r′ .outcome .answer .count
+  pub findings : r .findings ≡ r′ .findings
   pub state : r .outcome .state ≡ r′ .outcome .state
   pub memory : m ≡ m′
+
+-- The first of the records that differs has the index k and begins at this place: none before it differs, and from there on the reader finds it
+-- and the records after it, up to the place and the number that it comes to at last
+pub record FirstDiffers (s : List ℕ) (w : World) (items : List Record) (last number k place : ℕ) : Type 0 where
+  pub before : List Record
+  pub item : Record
+  pub rest : List Record
+  pub inOrder : items ≡ before ++ (item ∷ rest)
+  pub index : k ≡ length before
+  pub noneBefore : differed before w ≡ 0
+  pub differs : differs item (afterAll before w) ≡ true
+  pub reads : ReadOn s place (item ∷ rest) last number
 
 -- A replay of s in the world w that began, gave r and left the memory m′
 pub record Begun (s : List ℕ) (w : World) (r : Replayed) (m′ : Memory) : Type 0 where
@@ -60,6 +74,11 @@ pub record Begun (s : List ℕ) (w : World) (r : Replayed) (m′ : Memory) : Typ
   pub declinedAt : (n : ℕ) → r .outcome .answer .number ≡ suc n
       → (r .place ≡ last) × (r .place < length s) × (readRecord s (r .place) ≡ refused (suc n))
   pub noneDeclined : r .outcome .answer .number ≡ 0 → r .place ≡ 0
+  -- What the accepted records found, whatever stopped the replay
+  pub findings : r .findings ≡ findings items w
+  pub firstDiffers : (n : ℕ) → r .findings .differed ≡ suc n
+      → FirstDiffers s w items last (r .outcome .answer .number) (r .findings .index) (r .findings .place)
+  pub noneDiffers : r .findings .differed ≡ 0 → (r .findings .index ≡ 0) × (r .findings .place ≡ 0)
   -- What the accepted records leave is left, and nothing else is done
   pub leaves : world (r .outcome .state) m′ ≡ afterAll items w
   -- The listing: the first line, a line for each accepted record that has one, and `end`, or `stop` with the number and that place
@@ -78,7 +97,11 @@ longestListing = 69204
 pub record ReplayGiven (state : State) (s : List ℕ) (m : Memory) (d : List ℕ) (r : Replayed) (m′ : Memory) (d′ : List ℕ) : Type 0 where
   -- Declined by 9, 1, 2, 3 or 4 before its first record: nothing is done
   pub notBegun : (n : ℕ) → replayRefusal s (world state m) ≡ suc n
-      → (r .outcome ≡ declined state (suc n)) × (r .place ≡ 0) × (m′ ≡ m) × (replay s (world state m) .text ≡ header ++ stopLine 0 (suc n) 0)
+      → (r .outcome ≡ declined state (suc n))
+      × (r .place ≡ 0)
+      × (r .findings ≡ noFindings)
+      × (m′ ≡ m)
+      × (replay s (world state m) .text ≡ header ++ stopLine 0 (suc n) 0)
   pub begun : replayRefusal s (world state m) ≡ 0 → Begun s (world state m) r m′
   -- 9 exactly where the recording is longer than 16,383 bytes
   pub nine : eqb (r .outcome .answer .number) 9 ≡ ltb 16383 (length s)

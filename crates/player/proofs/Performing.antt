@@ -1,6 +1,7 @@
 -- What a record does, and its line, out of what the calls in its arm give.
 use Prim.Native.Nat.{ℕ, _%_, _≤_, _<_}
 use mathlib.Core.Path.{_≡_, sym, ap, _∙_}
+use mathlib.Core.Bool.{Bool, false}
 use mathlib.Core.List.{List, []}
 use native.Mathlib.Omega.{arith}
 use lib.ListN.{length}
@@ -14,6 +15,7 @@ use Rattle.listing.specs.Text.{Text}
 use Rattle.listing.specs.Put.{Put}
 use Rattle.listing.proofs.Putting.{nothing}
 use Rattle.playback.specs.Effects.{loadAt, storeAt, after, line}
+use Rattle.playback.specs.Findings.{compares, differs}
 use Rattle.playback.specs.Promised.{ShowGives, PerformGives}
 
 -- ---- Words by their address: RDRAM, DMEM or IMEM
@@ -53,36 +55,47 @@ pub shown : {o o′ : Outcome} {d d′ : List ℕ} {at place : ℕ} (text : Outc
     → o ≡ o′ → Put d at (text o) d′ place → ShowGives o′ (text o′) d at (o .state) d′ place
 shown text e p = record { given = ap (λ (x : Outcome). x .state) e; listed = rw e at p }
 
--- ---- The arms: the item is known to be the record of its arm, whose effect and line compute
+-- A run, whose text tells of its count and which compares nothing
+pub run-shown : {o o′ : Outcome} {d d′ : List ℕ} {at place place′ : ℕ} {next : State} {compared differed : Bool} (text : Outcome → Text)
+    → o ≡ o′ → Put d at (text o) d′ place → (next ≡ o .state) × (place′ ≡ place) × (compared ≡ false) × (differed ≡ false)
+    → ShowGives o′ (text o′) d at next d′ place′ × ((compared ≡ false) × (differed ≡ false))
+run-shown text e p u =
+    (record { given = u .0 ∙ ap (λ (x : Outcome). x .state) e; listed = rw (u .1) (rw e at p) }, (u .2, u .3))
+
+-- ---- The arms: the item is known to be the record of its arm, whose effect, line and comparison compute
 
 module _ {item item′ : Record} {w : World} {d : List ℕ} {at : ℕ} (known : item ≡ item′) where
-  pub performed : {w′ : World} {d′ : List ℕ} {place : ℕ}
-      → w′ ≡ after item′ w → Put d at (line item′ w) d′ place → PerformGives item w d at w′ d′ place
-  performed leaves listed = record { leaves = rw known leaves; listed = rw known listed }
+  pub performed : {w′ : World} {d′ : List ℕ} {place : ℕ} {compared differed : Bool}
+      → w′ ≡ after item′ w → Put d at (line item′ w) d′ place → (compared ≡ compares item′) × (differed ≡ differs item′ w)
+      → PerformGives item w d at w′ d′ place compared differed
+  performed leaves listed seen =
+      record { leaves = rw known leaves; listed = rw known listed; compared = rw known (seen .0); differed = rw known (seen .1) }
 
   -- A call that writes no line
-  pub unlisted-call : {o o′ : Outcome} {next : State} {place : ℕ}
-      → o ≡ o′ → (next ≡ o .state) × (place ≡ at) → at ≤ length d
-      → after item′ w ≡ world (o′ .state) (w .memory) → line item′ w ≡ []
-      → PerformGives item w d at (world next (w .memory)) d place
-  unlisted-call {o} {o′} {next} {place} e p room leaves empty =
+  pub unlisted-call : {o o′ : Outcome} {next : State} {place : ℕ} {compared differed : Bool}
+      → o ≡ o′ → (next ≡ o .state) × (place ≡ at) × (compared ≡ false) × (differed ≡ false) → at ≤ length d
+      → after item′ w ≡ world (o′ .state) (w .memory) → line item′ w ≡ [] → compares item′ ≡ false → differs item′ w ≡ false
+      → PerformGives item w d at (world next (w .memory)) d place compared differed
+  unlisted-call {o} {o′} {next} {place} e p room leaves empty none same =
       performed
       (ap (λ (x : State). world x (w .memory)) (p .0 ∙ ap (λ (x : Outcome). x .state) e) ∙ sym leaves)
       (rw empty (nothing d at place (omega (arith, p .1))))
+      (p .2 ∙ sym none, p .3 ∙ sym same)
 
   -- A call and its line
-  pub listed-call : {o : Outcome} {text : Text} {next : State} {m m′ : Memory} {d′ : List ℕ} {place : ℕ}
+  pub listed-call : {o : Outcome} {text : Text} {next : State} {m m′ : Memory} {d′ : List ℕ} {place : ℕ} {compared differed : Bool}
       → ShowGives o text d at next d′ place → m′ ≡ m
-      → after item′ w ≡ world (o .state) m → line item′ w ≡ text
-      → PerformGives item w d at (world next m′) d′ place
-  listed-call g bytes leaves told = performed (rw (g .given, bytes) (sym leaves)) (rw told (g .listed))
+      → after item′ w ≡ world (o .state) m → line item′ w ≡ text → (compared ≡ compares item′) × (differed ≡ differs item′ w)
+      → PerformGives item w d at (world next m′) d′ place compared differed
+  listed-call g bytes leaves told seen = performed (rw (g .given, bytes) (sym leaves)) (rw told (g .listed)) seen
 
   -- No call: every register is left alone
-  pub state-kept : {next : State} {m m′ : Memory} {d′ : List ℕ} {place p : ℕ}
-      → (next ≡ w .state) × (place ≡ p) → m′ ≡ m → after item′ w ≡ world (w .state) m → Put d at (line item′ w) d′ p
-      → PerformGives item w d at (world next m′) d′ place
-  state-kept kept bytes leaves put = performed (rw (kept .0, bytes) (sym leaves)) (rw (kept .1) put)
+  pub state-kept : {next : State} {m m′ : Memory} {d′ : List ℕ} {place : ℕ} {compared differed : Bool}
+      → next ≡ w .state → m′ ≡ m → after item′ w ≡ world (w .state) m → Put d at (line item′ w) d′ place
+      → (compared ≡ compares item′) × (differed ≡ differs item′ w)
+      → PerformGives item w d at (world next m′) d′ place compared differed
+  state-kept kept bytes leaves put seen = performed (rw (kept, bytes) (sym leaves)) put seen
 
 -- No line: the place stays, which is not past the buffer's end
-pub no-line : {d : List ℕ} {at : ℕ} → at ≤ length d → Put d at [] d at
-no-line {d} {at} room = nothing d at at (omega arith)
+pub no-line : {d : List ℕ} {at : ℕ} (place : ℕ) → place ≡ at → at ≤ length d → Put d at [] d place
+no-line {d} {at} place e room = nothing d at place (omega arith)

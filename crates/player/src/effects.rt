@@ -15,7 +15,8 @@ use machine::State;
 use recording::Record;
 ghost use mathlib.Core.Path.{_≡_};
 ghost use Prim.Native.Nat.{_≤_};
-ghost use mathlib.Core.Bool.{true, false};
+ghost use mathlib.Core.Bool.{true, false, not};
+ghost use lib.Dec.{eqb};
 ghost use lib.ListN.{length};
 ghost use Rattle.words.specs.Memory.{memory};
 ghost use Rattle.machine.specs.Calls.{readRegister};
@@ -26,30 +27,52 @@ ghost use Rattle.listing.specs.Put.{Put};
 ghost use Rattle.playback.specs.Effects.{room, loadAt};
 ghost use Rattle.playback.specs.Promised.{ShowGives, PerformGives};
 
-// The state after a record, and the place after its line.
+// The state after a record, and the place after its line; whether it compared what it found, and whether that differed.
 pub struct Progress {
     pub state: State,
     pub place: usize,
+    pub compared: bool,
+    pub differed: bool,
+}
+
+// A record that compares nothing.
+fn uncompared(state: State, place: usize) -> Progress
+    ensures { λ r. ⌜ (r .state ≡ state) × (r .place ≡ place) × (r .compared ≡ false) × (r .differed ≡ false) ⌝ }
+{
+    Progress {
+        state,
+        place,
+        compared: false,
+        differed: false,
+    }
 }
 
 // A call that writes no line.
 fn unlisted(done: Outcome, at: usize) -> Progress
-    ensures { λ r. ⌜ (r .state ≡ done .state) × (r .place ≡ at) ⌝ }
+    ensures { λ r. ⌜ (r .state ≡ done .state) × (r .place ≡ at) × (r .compared ≡ false) × (r .differed ≡ false) ⌝ }
 {
     let state = done.state;
-    Progress { state, place: at }
+    uncompared(state, at)
 }
 
 // Reads a register and lists what was found and what was expected.
 fn read_listed(s: State, a: u32, expected: u32, out: &mut [u8], at: usize) -> Progress
     ensures { λ r. ⌜ ShowGives (readRegister s a) (foundLine letterR false a (readRegister s a .answer .value) expected)
         (now (out .entry)) at (r .state) (now (out .exit)) (r .place) ⌝ }
+    ensures { λ r. ⌜ (r .compared ≡ true) × (r .differed ≡ not (eqb (readRegister s a .answer .value) expected)) ⌝ }
 {
     let done = read_register(s, a);
     let answer = done.answer;
-    let place = put_found(out, at, b'R', false, a, answer.value, expected as u64);
+    let found = answer.value;
+    let wanted = expected as u64;
+    let place = put_found(out, at, b'R', false, a, found, wanted);
     let state = done.state;
-    Progress { state, place }
+    Progress {
+        state,
+        place,
+        compared: true,
+        differed: found != wanted,
+    }
 }
 
 // An SP run, and its count listed.
@@ -67,12 +90,13 @@ fn sp_run_listed(
         (now (out .entry)) at (r .state) (now (out .exit)) (r .place) ⌝ }
     ensures { λ r. ⌜ memory (now (rdram .exit)) (now (dmem .exit)) (now (imem .exit))
         ≡ spRunMemory s budget (memory (now (rdram .entry)) (now (dmem .entry)) (now (imem .entry))) ⌝ }
+    ensures { λ r. ⌜ (r .compared ≡ false) × (r .differed ≡ false) ⌝ }
 {
     let done = sp_run(s, budget, rdram, dmem, imem);
     let answer = done.answer;
     let place = put_run(out, at, b'S', answer.count);
     let state = done.state;
-    Progress { state, place }
+    uncompared(state, place)
 }
 
 // A DP run into 2,048 bytes of its own, and its count listed.
@@ -87,27 +111,19 @@ fn dp_run_listed(
     ensures { λ r. ⌜ ShowGives (dpRun s budget (now (rdram .entry)) (now (dmem .entry)) room)
         (runLine letterD (dpRun s budget (now (rdram .entry)) (now (dmem .entry)) room .answer .count))
         (now (out .entry)) at (r .state) (now (out .exit)) (r .place) ⌝ }
+    ensures { λ r. ⌜ (r .compared ≡ false) × (r .differed ≡ false) ⌝ }
 {
     let mut words = [0u8; 2048];
     let done = dp_run(s, budget, rdram, dmem, &mut words);
     let answer = done.answer;
     let place = put_run(out, at, b'D', answer.count);
     let state = done.state;
-    Progress { state, place }
+    uncompared(state, place)
 }
 
-// A record that leaves every register alone and writes no line.
-fn unchanged(s: State, at: usize) -> Progress
-    ensures { λ r. ⌜ (r .state ≡ s) × (r .place ≡ at) ⌝ }
-{
-    Progress {
-        state: s,
-        place: at,
-    }
-}
-
-// Lists the word at an address and the word expected there.
+// Lists the word at an address and the word expected there; every register is left alone.
 fn check_listed(
+    s: State,
     a: u32,
     expected: u64,
     rdram: &[u8],
@@ -115,12 +131,21 @@ fn check_listed(
     imem: &[u8],
     out: &mut [u8],
     at: usize,
-) -> usize
-    ensures { λ r. ⌜ Put (now (out .entry)) at
-        (foundLine letterL true a (loadAt a (memory (now (rdram .entry)) (now (dmem .entry)) (now (imem .entry)))) expected) (now (out .exit)) r ⌝ }
+) -> Progress
+    ensures { λ r. ⌜ (r .state ≡ s) × Put (now (out .entry)) at
+        (foundLine letterL true a (loadAt a (memory (now (rdram .entry)) (now (dmem .entry)) (now (imem .entry)))) expected)
+        (now (out .exit)) (r .place) ⌝ }
+    ensures { λ r. ⌜ (r .compared ≡ true)
+        × (r .differed ≡ not (eqb (loadAt a (memory (now (rdram .entry)) (now (dmem .entry)) (now (imem .entry)))) expected)) ⌝ }
 {
     let found = load_at(a, rdram, dmem, imem);
-    put_found(out, at, b'L', true, a, found, expected)
+    let place = put_found(out, at, b'L', true, a, found, expected);
+    Progress {
+        state: s,
+        place,
+        compared: true,
+        differed: found != expected,
+    }
 }
 
 // Does what a record says, and writes its line.
@@ -135,10 +160,11 @@ pub(crate) fn perform(
 ) -> Progress
     requires { ⌜ at ≤ length (now out) ⌝ }
     ensures { λ r. ⌜ PerformGives item (world s (memory (now (rdram .entry)) (now (dmem .entry)) (now (imem .entry)))) (now (out .entry)) at
-        (world (r .state) (memory (now (rdram .exit)) (now (dmem .exit)) (now (imem .exit)))) (now (out .exit)) (r .place) ⌝ }
+        (world (r .state) (memory (now (rdram .exit)) (now (dmem .exit)) (now (imem .exit)))) (now (out .exit)) (r .place)
+        (r .compared) (r .differed) ⌝ }
 {
     match item {
-        Record::None => unchanged(s, at),
+        Record::None => uncompared(s, at),
         Record::Write(a, v) => unlisted(write_register(s, a, v), at),
         Record::Read(a, v) => read_listed(s, a, v, out, at),
         Record::SpRun(budget) => sp_run_listed(s, budget, rdram, dmem, imem, out, at),
@@ -148,11 +174,8 @@ pub(crate) fn perform(
         Record::Acknowledge => unlisted(acknowledge(s), at),
         Record::Store(a, word) => {
             store_at(a, word, rdram, dmem, imem);
-            unchanged(s, at)
+            uncompared(s, at)
         }
-        Record::Check(a, word) => {
-            let place = check_listed(a, word, rdram, dmem, imem, out, at);
-            unchanged(s, place)
-        }
+        Record::Check(a, word) => check_listed(s, a, word, rdram, dmem, imem, out, at),
     }
 }

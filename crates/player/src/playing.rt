@@ -8,19 +8,28 @@ use lines::put_stop;
 use machine::Answer;
 use machine::Outcome;
 use machine::State;
+use playback::Findings;
 use playback::Replayed;
 use reader::read_record;
 ghost use mathlib.Core.Path.{_≡_};
-ghost use Prim.Native.Nat.{_≤_};
+ghost use Prim.Native.Nat.{_≤_, _<_};
 ghost use lib.ListN.{length};
 ghost use Rattle.words.specs.Memory.{memory};
 ghost use Rattle.laws.specs.World.{world};
 ghost use Rattle.recording.specs.Split.{split};
+ghost use Rattle.playback.specs.Findings.{noFindings};
 ghost use Rattle.playback.specs.Replay.{ending, replayRefusal};
-ghost use Rattle.playback.specs.Promised.{PlayGives, ReplayGives};
+ghost use Rattle.playback.specs.Promised.{noted, PlayGives, ReplayGives};
 
-fn replayed(state: State, number: u32, count: u32, written: usize, place: usize) -> Replayed
-    ensures { λ r. ⌜ (r .outcome ≡ ending state number count) × (r .written ≡ written) × (r .place ≡ place) ⌝ }
+fn replayed(
+    state: State,
+    number: u32,
+    count: u32,
+    written: usize,
+    place: usize,
+    findings: Findings,
+) -> Replayed
+    ensures { λ r. ⌜ (r .outcome ≡ ending state number count) × (r .written ≡ written) × (r .place ≡ place) × (r .findings ≡ findings) ⌝ }
 {
     let answer = Answer {
         number,
@@ -32,7 +41,35 @@ fn replayed(state: State, number: u32, count: u32, written: usize, place: usize)
         outcome,
         written,
         place,
+        findings,
     }
+}
+
+// Nothing was compared.
+fn no_findings() -> Findings
+    ensures { λ r. ⌜ r ≡ noFindings ⌝ }
+{
+    Findings {
+        compared: 0,
+        differed: 0,
+        index: 0,
+        place: 0,
+    }
+}
+
+// What was found so far, and one record more, which has this index and begins at this place.
+fn noted(f: Findings, compared: bool, differed: bool, index: u32, place: usize) -> Findings
+    requires { ⌜ (f .compared < 0xFFFFFFFF) × (f .differed < 0xFFFFFFFF) ⌝ }
+    ensures { λ r. ⌜ r ≡ noted f compared differed index place ⌝ }
+{
+    let mut next = f;
+    next.compared = f.compared + compared as u32;
+    next.differed = f.differed + differed as u32;
+    if differed & (f.differed == 0) {
+        next.index = index;
+        next.place = place;
+    }
+    next
 }
 
 // Performs records until none is left or one is declined, and writes the last line.
@@ -54,23 +91,25 @@ fn play(
     let mut place = from;
     let mut at: usize = 0;
     let mut count: u32 = 0;
+    let mut findings = no_findings();
     while at < recording.len() {
         let next = read_record(recording, at);
         let number = next.number;
         if number == 0 {
             let item = next.item;
             let done = perform(item, state, rdram, dmem, imem, out, place);
+            findings = noted(findings, done.compared, done.differed, count, at);
             state = done.state;
             place = done.place;
             at = next.place;
             count += 1;
         } else {
             let written = put_stop(out, place, count, number, at);
-            return replayed(state, number, count, written, at);
+            return replayed(state, number, count, written, at, findings);
         }
     }
     let written = put_end(out, place, count);
-    replayed(state, 0, count, written, 0)
+    replayed(state, 0, count, written, 0, findings)
 }
 
 // The number of a replay that does not begin, or 0.
@@ -82,8 +121,8 @@ fn replay_refusal(s: State, recording: &[u8], rdram: &[u8], dmem: &[u8], imem: &
 }
 
 // Replays a recording, and writes its listing to `out`; 69,204 bytes of room always suffice. It stops at the first record that is declined, with the
-// state and bytes that the records before it left; the count is their number, and `place` is where that record begins. Refusals: 9, 1, 2, 3, 4, with place 0;
-// then those of its records: 7, 8, 10, 5, 6.
+// state and bytes that the records before it left; the count is their number, and `place` is where that record begins. `findings` says what their reads
+// and checks found. Refusals: 9, 1, 2, 3, 4, with place 0 and nothing found; then those of its records: 7, 8, 10, 5, 6.
 pub fn replay(
     s: State,
     recording: &[u8],
@@ -101,5 +140,5 @@ pub fn replay(
         return play(s, recording, rdram, dmem, imem, out, place);
     }
     let written = put_stop(out, place, 0, number, 0);
-    replayed(s, number, 0, written, 0)
+    replayed(s, number, 0, written, 0, no_findings())
 }

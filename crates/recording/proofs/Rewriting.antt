@@ -14,7 +14,7 @@ use Rattle.machine.specs.Refusals.{check}
 use Rattle.recording.specs.declared.Record.{Record}
 use Rattle.recording.specs.declared.Reading.{Reading}
 use Rattle.recording.specs.Kinds.{Bytes, four, eight, isKind, size, decoded, kindOf, recordOf}
-use Rattle.recording.specs.Fields.{fieldsOf, recordBy, FieldsFit}
+use Rattle.recording.specs.Fields.{fieldsOf, recordSize, recordBy, FieldsFit}
 use Rattle.recording.specs.Reader.{recordNumber, found, longest, readRecord, RecordGives}
 use Rattle.recording.specs.Writer.{recordBytes, hasRoom, writeNumber, answered, replaced, WriteRecordGives}
 use Rattle.recording.specs.Written.{EveryReading}
@@ -29,11 +29,21 @@ pub decoded-kind : (k a v w : ℕ) → isKind k ≡ true → kindNumber (decoded
 unfolding decoded
 decoded-kind k a v w = each-kind (λ (n : ℕ). kindNumber (decoded n a v w) ≡ n) refl refl refl refl refl refl refl refl refl k
 
+read-kind : (u : List ℕ) → recordNumber u ≡ 0 → kindNumber (recordOf u) ≡ kindOf u
+unfolding recordOf
+read-kind u z = decoded-kind (kindOf u) (four u 1) (four u 5) (eight u 5) (accepted-kind u z)
+
+-- The place after a record that was read is as far on as the record has bytes
+pub read-size : (s : List ℕ) (at : ℕ) → length s ≤ longest → readRecord s at .number ≡ 0
+    → readRecord s at .place ≡ at + recordSize (readRecord s at .item)
+read-size s at h e =
+    let z : recordNumber (drop at s) ≡ 0 = sym (short s at h) ∙ e in
+    rw (read-accepted s at h z, read-kind (drop at s) z)
+
 -- An accepted record by its own fields
 module _ (u : List ℕ) (b : Bytes u) (z : recordNumber u ≡ 0) where
   same-kind : fieldsOf (recordOf u) .kind ≡ kindOf u
-  unfolding recordOf
-  same-kind = decoded-kind (kindOf u) (four u 1) (four u 5) (eight u 5) (accepted-kind u z)
+  same-kind = read-kind u z
 
   same-record : recordBy (fieldsOf (recordOf u)) ≡ recordOf u
   same-record = own-fields (recordOf u) (read-fits u b)

@@ -6,7 +6,7 @@ use mathlib.Core.List.{[], _∷_, map}
 use Rattle.recording.specs.declared.Record.{Record}
 use Rattle.recording.specs.declared.Record.the-variants.{None, Write, Read, SpRun, DpRun, Tick, Break, Acknowledge, Store, Check}
 use Rattle.recording.specs.declared.Fields.{Fields}
-use Rattle.recording.specs.Kinds.{isKind, accesses, runsOrTicks, storesOrChecks, kinds, decoded}
+use Rattle.recording.specs.Kinds.{isKind, accesses, runsOrTicks, storesOrChecks, size, kinds, decoded}
 
 abbrev pub ofKind : ℕ → ℕ → ℕ → Fields
 ofKind kind address value = record { value = value; address = address; kind = kind }
@@ -23,6 +23,10 @@ fieldsOf Break = ofKind 6 0 0
 fieldsOf Acknowledge = ofKind 7 0 0
 fieldsOf (Store a w) = ofKind 8 a w
 fieldsOf (Check a w) = ofKind 9 a w
+
+-- How many bytes a record takes
+abbrev pub recordSize : Record → ℕ
+recordSize r = size (fieldsOf r .kind)
 
 -- The low 32 bits of the value
 abbrev pub low : Fields → ℕ

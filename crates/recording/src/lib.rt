@@ -15,7 +15,7 @@ pub enum Record {
 }
 
 // A record by its kind and fields, as the writer takes it and as host programs get it. The value is the second field of kinds 1, 2, 8 and 9, and the
-// only one of kinds 3, 4 and 5. Every byte can stand as the kind; known are 1 to 9.
+// only one of kinds 3, 4 and 5. In kinds 1 to 5 it has 32 bits: the writer leaves the upper half out. Every byte can stand as the kind; known are 1 to 9.
 #[repr(C)]
 pub struct Fields {
     pub value: u64,

@@ -1,18 +1,36 @@
 // Replays recordings and compares each listing with the one expected. The arguments are file names in pairs: a recording, and its listing. A line is
-// written for each pair: the recording's name, and `same`, `differs` or `missing`.
+// written for each pair: the recording's name, `same` or `differs` and the line that sums the replay up, or `missing`.
 use libc::STDOUT_FILENO;
 
-// Whether the recording in one file gives the listing in another.
-fn is_listed(recording: i32, expected: i32) -> bool {
+// Whether the recording in one file gives the listing in another; and the line that sums it up.
+fn compare_files(recording: i32, expected: i32) {
+    let mut input = [0u8; 16384];
+    let got = console::read_input(recording, &mut input);
+    let length = got.length;
     let mut rdram = [0u8; 32768];
     let mut dmem = [0u8; 4096];
     let mut imem = [0u8; 4096];
     let mut out = [0u8; 69204];
-    let length = console::listing_from(recording, &mut rdram, &mut dmem, &mut imem, &mut out);
+    let mut line = [0u8; 128];
+    let done = console::judge(
+        &input[..length],
+        &mut rdram,
+        &mut dmem,
+        &mut imem,
+        &mut out,
+        &mut line,
+    );
+    let written = done.listing;
+    let summary = done.summary;
     // One byte more than any listing has.
     let mut listing = [0u8; 69205];
     let n = io::read_full(expected, &mut listing);
-    check::same(&out[..length], &listing[..n])
+    if check::same(&out[..written], &listing[..n]) {
+        io::write_all(STDOUT_FILENO, b" same: ");
+    } else {
+        io::write_all(STDOUT_FILENO, b" differs: ");
+    }
+    io::write_all(STDOUT_FILENO, &line[..summary]);
 }
 
 // The line of a pair: arguments i and j.
@@ -26,10 +44,8 @@ fn compare(i: usize, j: usize) {
     io::write_all(STDOUT_FILENO, &name[..n]);
     if (recording < 0) | (expected < 0) {
         io::write_all(STDOUT_FILENO, b" missing\n");
-    } else if is_listed(recording, expected) {
-        io::write_all(STDOUT_FILENO, b" same\n");
     } else {
-        io::write_all(STDOUT_FILENO, b" differs\n");
+        compare_files(recording, expected);
     }
     libc::close(recording);
     libc::close(expected);

@@ -48,8 +48,8 @@ fn answered(number: u32, value: u64) -> Answer
     }
 }
 
-// Writes a record to a buffer from a place on; the value is the place after it, and no other byte changes. Refusals, by the first that applies: 7,
-// 5 or 6, and 14 where it would end past the buffer or past 16,383 bytes.
+// Writes a record to a buffer from a place on; the value is the place after it, and no other byte changes. Refusals, by the first that applies: 7; 10 and
+// 5 for a register's address, 6 for one of memory; and 14 where it would end past the buffer or past 16,383 bytes.
 pub fn write_record(f: Fields, buffer: &mut [u8], place: usize) -> Answer
     ensures { λ r. ⌜ WriteRecordGives f place (now (buffer .entry)) r (now (buffer .exit)) ⌝ }
 {

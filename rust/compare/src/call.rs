@@ -1,7 +1,7 @@
 //! A call with all that it is handed.
 
 use crate::memory::{output, Lent};
-use ofersky::{Record, State};
+use ofersky::{Outcome, Record, Replayed, State};
 
 /// A public call and its arguments other than the state and the memories. `out` is the length of the output that is lent.
 #[derive(Clone, Debug, PartialEq, Eq)]
@@ -43,6 +43,10 @@ pub enum Call {
         recording: Vec<u8>,
         out: usize,
     },
+    /// The verdict of a struct that no replay need have given. Its state is that of the case.
+    Verdict {
+        replayed: Replayed,
+    },
 }
 
 /// A call on a state and memories.
@@ -54,7 +58,7 @@ pub struct Case {
 }
 
 /// The names of the calls, in the order of `Call::index`.
-pub const NAMES: [&str; 15] = [
+pub const NAMES: [&str; 16] = [
     "power_up",
     "is_sound",
     "read_register",
@@ -70,6 +74,7 @@ pub const NAMES: [&str; 15] = [
     "read_record",
     "write_record",
     "replay",
+    "verdict",
 ];
 
 impl Call {
@@ -90,6 +95,7 @@ impl Call {
             Call::ReadRecord { .. } => 12,
             Call::WriteRecord { .. } => 13,
             Call::Replay { .. } => 14,
+            Call::Verdict { .. } => 15,
         }
     }
 
@@ -122,5 +128,17 @@ impl Call {
             Call::WriteRecord { buffer, .. } => buffer.clone(),
             _ => Vec::new(),
         }
+    }
+}
+
+/// What a verdict is asked of: the struct, with this state in it.
+pub fn judged(state: State, replayed: &Replayed) -> Replayed {
+    let outcome = Outcome {
+        state,
+        ..replayed.outcome
+    };
+    Replayed {
+        outcome,
+        ..*replayed
     }
 }

@@ -2,7 +2,8 @@
 
 use crate::fields::FIELDS;
 use crate::seen::Seen;
-use ofersky::{Part, Reading};
+use crate::verdicts::carried;
+use ofersky::{Findings, Part, Reading};
 
 /// The memories in the order of `Seen::bytes`.
 const MEMORIES: [&str; 5] = ["RDRAM", "DMEM", "IMEM", "output", "next word"];
@@ -57,9 +58,33 @@ fn numbers(seen: &Seen) -> Vec<(&'static str, u64)> {
         ("place", seen.place as u64),
         ("bytes beside the lent ones changed", seen.outside.into()),
     ];
+    numbers.extend(findings(seen));
     let state = &seen.outcome.state;
     numbers.extend(FIELDS.iter().map(|field| (field.name, (field.get)(state))));
     numbers
+}
+
+/// What a replay found, and what its verdict carries.
+fn findings(seen: &Seen) -> [(&'static str, u64); 10] {
+    let Findings {
+        compared,
+        differed,
+        first_index,
+        first_place,
+    } = seen.findings;
+    let [number, all, others, index, place] = carried(seen.verdict);
+    [
+        ("findings.compared", compared.into()),
+        ("findings.differed", differed.into()),
+        ("findings.first_index", first_index.into()),
+        ("findings.first_place", first_place as u64),
+        ("verdict", seen.code.into()),
+        ("verdict.number", number),
+        ("verdict.compared", all),
+        ("verdict.differed", others),
+        ("verdict.first_index", index),
+        ("verdict.first_place", place),
+    ]
 }
 
 /// The first word that differs in a memory, and how many bytes differ in all.

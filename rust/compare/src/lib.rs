@@ -22,4 +22,5 @@ pub mod states;
 pub mod totals;
 pub mod traffic;
 pub mod values;
+pub mod verdicts;
 pub mod watch;

@@ -4,7 +4,8 @@ use crate::call::{Call, Case};
 use crate::difference::hex;
 use crate::fields::FIELDS;
 use crate::records::{address_name, readable};
-use ofersky::State;
+use crate::verdicts::NUMBERS;
+use ofersky::{Replayed, State};
 
 /// The whole report of a difference.
 pub fn report(noun: &str, compared: u64, case: &Case, differences: &[String]) -> String {
@@ -69,8 +70,18 @@ fn arguments(call: &Call) -> String {
             item.value
         ),
         Call::Replay { out, .. } => format!(", listing buffer of {out} bytes"),
+        Call::Verdict { replayed } => format!(", {}", made(replayed)),
         _ => String::new(),
     }
+}
+
+/// The numbers of a struct that is judged.
+fn made(replayed: &Replayed) -> String {
+    let numbers: Vec<String> = NUMBERS
+        .iter()
+        .map(|number| format!("{} 0x{:X}", number.name, (number.get)(replayed)))
+        .collect();
+    numbers.join(", ")
 }
 
 /// The fields that are not zero.

@@ -1,10 +1,11 @@
 //! What a call gives and leaves: all of it, on either side.
 
-use crate::call::{Call, Case};
+use crate::call::{judged, Call, Case};
 use crate::fields::{from_model, to_model};
 use crate::guard::Guarded;
+use crate::verdicts;
 use model::calls;
-use ofersky::{Answer, Outcome, Part, Reading, Record, State};
+use ofersky::{Answer, Findings, Outcome, Part, Reading, Record, Replayed, State, Verdict};
 
 /// All that can be seen of a call. A field that the call does not give is zero on both sides.
 #[derive(Clone, Debug, Default, PartialEq, Eq)]
@@ -16,6 +17,11 @@ pub struct Seen {
     pub written: usize,
     /// Where the record begins that a replay refused.
     pub place: usize,
+    /// What the reads and checks of a replay found.
+    pub findings: Findings,
+    /// The verdict of a replay: its code, and what the wrapper makes of that.
+    pub code: u32,
+    pub verdict: Option<Verdict>,
     /// A byte beside a lent memory or output was changed.
     pub outside: bool,
     /// The bytes of RDRAM, DMEM, IMEM, of the output or the buffer, and those of the next word after a look.
@@ -42,6 +48,29 @@ impl Seen {
     /// The number of the refusal, wherever the call gives it.
     pub fn number(&self) -> u32 {
         self.outcome.answer.number + self.reading.number
+    }
+
+    /// All that a replay gives.
+    fn take(&mut self, replayed: Replayed) {
+        Replayed {
+            outcome: self.outcome,
+            written: self.written,
+            place: self.place,
+            findings: self.findings,
+        } = replayed;
+    }
+
+    /// The library's verdict.
+    fn judge(&mut self, replayed: &Replayed) {
+        self.code = ofersky::verdict_code(replayed);
+        self.verdict = Some(ofersky::verdict(replayed));
+    }
+
+    /// The model's verdict.
+    fn judge_by_model(&mut self, replayed: &calls::Replayed) {
+        let verdict = calls::verdict(replayed);
+        self.code = verdict.code();
+        self.verdict = Some(verdicts::from_model(verdict));
     }
 }
 
@@ -96,9 +125,10 @@ fn call_library(case: &Case, seen: &mut Seen, lent: [&mut [u8]; 4]) {
         }
         Call::Replay { recording, .. } => {
             let replayed = ofersky::replay(s, recording, rdram, dmem, imem, out);
-            seen.outcome = replayed.outcome;
-            (seen.written, seen.place) = (replayed.written, replayed.place);
+            seen.take(replayed);
+            seen.judge(&replayed);
         }
+        Call::Verdict { replayed } => seen.judge(&judged(s, replayed)),
     }
 }
 
@@ -132,8 +162,11 @@ pub fn model(case: &Case) -> Seen {
         Call::WriteRecord { item, place, .. } => seen.outcome.answer = written(item, out, *place),
         Call::Replay { recording, .. } => {
             let replayed = calls::replay(s, recording, rdram, dmem, imem, out);
-            seen.outcome = given(replayed.outcome);
-            (seen.written, seen.place) = (replayed.written, replayed.place);
+            seen.take(replay(&replayed));
+            seen.judge_by_model(&replayed);
+        }
+        Call::Verdict { replayed } => {
+            seen.judge_by_model(&verdicts::to_model(&judged(case.state, replayed)))
         }
     }
     seen
@@ -182,6 +215,15 @@ fn part_of<'a>(part: &Part, rdram: &'a [u8], dmem: &'a [u8]) -> Option<&'a [u8]>
     memory.get(from..from + part.length as usize)
 }
 
+fn replay(replayed: &calls::Replayed) -> Replayed {
+    Replayed {
+        outcome: given(replayed.outcome),
+        written: replayed.written,
+        place: replayed.place,
+        findings: verdicts::findings(replayed.findings),
+    }
+}
+
 fn reading(found: calls::Reading) -> Reading {
     Reading {
         item: Record {
@@ -206,7 +248,7 @@ fn written(item: &Record, buffer: &mut [u8], place: usize) -> Answer {
 /// The state after a call on the model's side, for a walk from call to call.
 pub fn next_state(case: &Case, seen: &Seen) -> State {
     match case.call {
-        Call::PowerUp | Call::IsSound | Call::Look => case.state,
+        Call::PowerUp | Call::IsSound | Call::Look | Call::Verdict { .. } => case.state,
         Call::ReadRecord { .. } | Call::WriteRecord { .. } => case.state,
         _ => seen.outcome.state,
     }

@@ -4,6 +4,7 @@ use crate::call::{Call, Case};
 use crate::fields::FIELDS;
 use crate::memory::BANK;
 use crate::records::{numbers, pieces};
+use crate::verdicts::NUMBERS;
 use std::ops::Range;
 use std::time::{Duration, Instant};
 
@@ -19,6 +20,8 @@ enum Number {
     Imem,
     Fill,
     Argument(usize),
+    /// A number of a struct that is judged.
+    Judged(usize),
     Bytes(Range<usize>),
     /// The bytes of a buffer before the place of the record, which moves with them.
     Before,
@@ -122,6 +125,9 @@ fn all_numbers(case: &Case) -> Vec<Number> {
     all.extend([Number::Dmem, Number::Imem, Number::Filled]);
     all.extend([0, 2, 3].map(Number::Argument));
     all.push(OUT);
+    if let Call::Verdict { .. } = case.call {
+        all.extend((0..NUMBERS.len()).map(Number::Judged));
+    }
     all.extend(numbers(recording(case)).into_iter().map(Number::Bytes));
     all
 }
@@ -161,6 +167,10 @@ fn get(case: &Case, number: &Number) -> u64 {
         Number::Imem => case.lent.imem as u64,
         Number::Fill => case.lent.fill,
         Number::Argument(i) => argument(&case.call, *i),
+        Number::Judged(i) => match &case.call {
+            Call::Verdict { replayed } => (NUMBERS[*i].get)(replayed),
+            _ => 0,
+        },
         Number::Bytes(range) => recording(case)[range.clone()]
             .iter()
             .fold(0, |sum, byte| sum << 8 | u64::from(*byte)),
@@ -180,6 +190,11 @@ fn set(case: &mut Case, number: &Number, value: u64) {
         Number::Imem => case.lent.imem = value as usize,
         Number::Fill => case.lent.fill = value,
         Number::Argument(i) => set_argument(&mut case.call, *i, value),
+        Number::Judged(i) => {
+            if let Call::Verdict { replayed } = &mut case.call {
+                (NUMBERS[*i].set)(replayed, value);
+            }
+        }
         Number::Bytes(range) => {
             let bytes = value.to_be_bytes();
             let bytes = &bytes[8 - range.len()..];

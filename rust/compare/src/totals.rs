@@ -5,6 +5,7 @@ use crate::events::{Event, Events};
 use crate::records::pieces;
 use crate::seen::Seen;
 use crate::values::{first_copy, is_register};
+use crate::verdicts::{compared, CODES};
 use std::sync::Mutex;
 
 /// The numbers that calls give: success and the refusals up to 14.
@@ -13,8 +14,9 @@ const NUMBERS: usize = 15;
 /// The number of a register address that is not a multiple of 4.
 const MISALIGNED: usize = 10;
 
-/// The replays among the calls.
-const REPLAY: usize = NAMES.len() - 1;
+/// The replays and the single verdicts among the calls.
+const REPLAY: usize = NAMES.len() - 2;
+const VERDICT: usize = NAMES.len() - 1;
 
 /// Counts of cases.
 #[derive(Clone, Debug, Default)]
@@ -31,7 +33,48 @@ pub struct Totals {
     pub misaligned: [[u64; 2]; NAMES.len()],
     /// The accepted accesses through a mirror, by call.
     pub mirrors: [u64; NAMES.len()],
+    /// The verdicts by call, in the order of `CODES`.
+    pub verdicts: [[u64; CODES.len()]; NAMES.len()],
+    pub findings: Found,
     pub events: Events,
+}
+
+/// The replays whose findings say more than their verdict does.
+#[derive(Clone, Copy, Debug, Default)]
+pub struct Found {
+    /// They stopped, and had found a difference before.
+    pub stopped: u64,
+    /// They stopped at a read or a check, which is not counted.
+    pub uncounted: u64,
+    /// The first that differed was not the first compared.
+    pub later: u64,
+    /// More than one differed.
+    pub several: u64,
+}
+
+impl Found {
+    fn count(&mut self, recording: &[u8], seen: &Seen) {
+        let found = seen.findings;
+        let records = seen.outcome.answer.count as usize;
+        let differed = found.differed > 0;
+        let first = compared(recording, records).first().map(|first| first.0);
+        // A replay that was refused before its first record stopped at none.
+        let refused = match seen.number() {
+            0..=4 | 9 => None,
+            _ => Some(recording[seen.place]),
+        };
+        self.stopped += u64::from(refused.is_some() && differed);
+        self.uncounted += u64::from(matches!(refused, Some(2 | 9)));
+        self.later += u64::from(differed && first != Some(found.first_index as usize));
+        self.several += u64::from(found.differed > 1);
+    }
+
+    fn add(&mut self, other: &Found) {
+        self.stopped += other.stopped;
+        self.uncounted += other.uncounted;
+        self.later += other.later;
+        self.several += other.several;
+    }
 }
 
 impl Totals {
@@ -46,7 +89,12 @@ impl Totals {
             .into_iter()
             .filter(|address| first_copy(*address) != *address);
         self.mirrors[call] += mirrors.count() as u64;
-        if call == REPLAY {
+        if call == REPLAY || call == VERDICT {
+            let verdict = CODES.iter().position(|(code, _)| *code == seen.code);
+            self.verdicts[call][verdict.expect("a verdict's code")] += 1;
+        }
+        if let Call::Replay { recording, .. } = &case.call {
+            self.findings.count(recording, seen);
             self.records += u64::from(seen.outcome.answer.count);
             self.stopped += u64::from(number != 0);
             self.later[number] += u64::from(seen.place != 0);
@@ -67,19 +115,48 @@ impl Totals {
             other.misaligned.as_flattened(),
         );
         add_each(&mut self.mirrors, &other.mirrors);
+        add_each(
+            self.verdicts.as_flattened_mut(),
+            other.verdicts.as_flattened(),
+        );
+        self.findings.add(&other.findings);
         self.events.add(&other.events);
     }
 
     /// The line of a test that compares recordings.
     pub fn recordings_line(&self) -> String {
         format!(
-            "compared {} recordings: {} records, {} stopped{}, {} of them past place 0{}",
+            "compared {} recordings: {} records, {} stopped{}, {} of them past place 0{}; {}",
             grouped(self.compared),
             grouped(self.records),
             grouped(self.stopped),
             refusals(&self.answers[REPLAY]),
             grouped(self.later.iter().sum()),
-            refusals(&self.later)
+            refusals(&self.later),
+            self.found_line()
+        )
+    }
+
+    /// How often a call gave each verdict, in words.
+    pub fn verdicts_line(&self, call: &str) -> String {
+        let verdicts: Vec<String> = CODES
+            .iter()
+            .zip(&self.verdicts[index(call)])
+            .map(|((_, name), seen)| format!("{name} {}", grouped(*seen)))
+            .collect();
+        verdicts.join(", ")
+    }
+
+    /// The verdicts of replays, and what they found.
+    fn found_line(&self) -> String {
+        let found = &self.findings;
+        format!(
+            "{}; several differed in {}, the first not the first compared in {}, {} stopped after a difference, {} at a read or check",
+            self.verdicts_line("replay"),
+            grouped(found.several),
+            grouped(found.later),
+            grouped(found.stopped),
+            grouped(found.uncounted)
         )
     }
 
@@ -141,6 +218,23 @@ impl Totals {
             seen >= least,
             "{call} accepted only {seen} accesses through mirrors"
         );
+    }
+
+    /// This call gave each verdict at least so often, in the order of `CODES`.
+    pub fn expect_verdicts(&self, call: &str, least: [u64; CODES.len()]) {
+        let seen = self.verdicts[index(call)];
+        let enough = seen.iter().zip(least).all(|(seen, least)| *seen >= least);
+        assert!(enough, "{call} gave verdicts {seen:?}, less than {least:?}");
+    }
+
+    /// Replays found each of what `Found` singles out at least so often.
+    pub fn expect_found(&self, least: Found) {
+        let seen = &self.findings;
+        let enough = seen.stopped >= least.stopped
+            && seen.uncounted >= least.uncounted
+            && seen.later >= least.later
+            && seen.several >= least.several;
+        assert!(enough, "replays found {seen:?}, less than {least:?}");
     }
 
     /// Each of these events was seen at least so often.

@@ -9,6 +9,12 @@ use model::calls;
 use model::machine::*;
 use model::recording::Record;
 
+/// One expectation in so many is wrong, where nothing else is asked for.
+const WRONG: u64 = 4;
+
+/// So that no expectation is wrong.
+pub const NEVER: u64 = u64::MAX;
+
 /// A recording of whole scenes from power-up, of at least as many bytes.
 pub fn scenes(random: &mut Random, bytes: usize) -> Vec<u8> {
     let lent = Lent::new(4_096, 0);
@@ -24,6 +30,8 @@ pub struct Traffic<'a> {
     pub random: &'a mut Random,
     pub watch: Watch,
     pub bytes: Vec<u8>,
+    /// One expectation in so many is wrong.
+    pub wrong: u64,
 }
 
 impl<'a> Traffic<'a> {
@@ -32,6 +40,7 @@ impl<'a> Traffic<'a> {
             random,
             watch,
             bytes: Vec::new(),
+            wrong: WRONG,
         }
     }
 
@@ -247,7 +256,7 @@ impl<'a> Traffic<'a> {
         }
     }
 
-    /// A read, at times through a mirror, mostly with the right expectation.
+    /// A read, at times through a mirror, with a wrong expectation as often as asked for.
     fn read(&mut self, register: u32) {
         let address = self.address_of(register);
         let found = calls::read_register(&self.watch.state, address)
@@ -255,17 +264,25 @@ impl<'a> Traffic<'a> {
             .value as u32;
         let other = self.random.word();
         let wrong = self.random.pick(&[found ^ 1, other]);
-        let expected = if self.random.once_in(4) { wrong } else { found };
+        let expected = self.expectation(found.into(), wrong.into()) as u32;
         self.push(Record::Read { address, expected });
     }
 
-    /// A memory check, mostly with the right expectation.
+    /// A memory check, with a wrong expectation as often.
     fn check(&mut self) {
         let address = memory_address(self.random, self.rdram());
         let found = self.watch.word(address);
         let other = self.random.number();
         let wrong = self.random.pick(&[found ^ 1, !found, other]);
-        let expected = if self.random.once_in(4) { wrong } else { found };
+        let expected = self.expectation(found, wrong);
         self.push(Record::Check { address, expected });
+    }
+
+    fn expectation(&mut self, found: u64, wrong: u64) -> u64 {
+        if self.random.once_in(self.wrong) {
+            wrong
+        } else {
+            found
+        }
     }
 }

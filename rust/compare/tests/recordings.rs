@@ -11,9 +11,10 @@ use compare::random::Random;
 use compare::records::pieces;
 use compare::seen::Seen;
 use compare::states::{break_clause, sound, unsound, BREAKS};
-use compare::totals::{Sum, Totals};
+use compare::totals::{Found, Sum, Totals};
 use compare::traffic::Traffic;
 use compare::values::edge_addresses;
+use compare::verdicts::listed;
 use compare::watch::Watch;
 use model::machine::{command_length, DP_END, DP_START, DP_STATUS, SP_RDLEN, SP_WRLEN};
 use model::recording::Record;
@@ -40,7 +41,8 @@ fn case(state: State, lent: Lent, recording: Vec<u8>, out: usize) -> Case {
     }
 }
 
-/// Replays on both sides, and finds the place of a stop again: it is where the accepted records end. The listing must tell it too.
+/// Replays on both sides, and finds the place of a stop again: it is where the accepted records end. The listing must tell it too,
+/// and what was compared and differed.
 fn check(comparison: &mut Comparison, case: &Case) -> Seen {
     let seen = comparison.check(case);
     let Call::Replay { recording, out } = &case.call else {
@@ -56,8 +58,12 @@ fn check(comparison: &mut Comparison, case: &Case) -> Seen {
         0 => format!("\nend {count}\n"),
         _ => format!("\nstop {count} {number} {place}\n"),
     };
-    let listing = &seen.bytes[3][..seen.written];
-    assert!(seen.written == *out || listing.ends_with(last.as_bytes()));
+    let listing = String::from_utf8_lossy(&seen.bytes[3][..seen.written]);
+    let whole = listing.ends_with(&last);
+    assert!(seen.written == *out || whole);
+    if whole {
+        assert_eq!(seen.findings, listed(recording, count as usize, &listing));
+    }
     seen
 }
 
@@ -131,6 +137,12 @@ fn expect_traffic(totals: &Totals, least: u64) {
         assert!(*seen >= least, "0x{byte:02X} was framed {seen} times");
     }
     totals.expect_mirrors("replay", 10_000);
+    totals.expect_verdicts("replay", [2_000, 2_000, 2_000, 0]);
+    totals.expect_found(Found {
+        later: 1_000,
+        several: 500,
+        ..Found::default()
+    });
 }
 
 #[test]
@@ -264,11 +276,22 @@ fn damaged_recordings() {
     }
     every_kind(&mut comparison);
     every_bad_address(&mut comparison);
-    let totals = &comparison.totals;
+    expect_damage(&comparison.totals);
+    done("damaged recordings", &comparison.totals);
+}
+
+/// Every number of a record, at place 0 and later, and some that stop after a difference.
+fn expect_damage(totals: &Totals) {
     totals.expect_numbers("replay", &[0, 5, 6, 7, 8, 10], 200);
     totals.expect_places(&[5, 6, 7, 8, 10], 100, 200);
     totals.expect_misaligned("replay", 100);
-    done("damaged recordings", totals);
+    totals.expect_verdicts("replay", [20, 100, 200, 5_000]);
+    totals.expect_found(Found {
+        stopped: 80,
+        uncounted: 1_000,
+        later: 30,
+        several: 10,
+    });
 }
 
 /// Each of the 256 kinds after one good record, with the bytes of the longest body and with none.

@@ -1,12 +1,69 @@
 //! The recordings that are shipped with their listings, replayed by the library.
 
-use ofersky::{Replayed, LISTING_BYTES};
+use ofersky::{verdict, Replayed, Verdict, LISTING_BYTES};
 use std::fs;
 use std::path::{Path, PathBuf};
 
 /// The lengths of the replay program's memories.
 const RDRAM: usize = 32_768;
 const BANK: usize = 4_096;
+
+/// The verdict of each recording, counted in its listing: the `R` and `L` lines, and those with `expected`. The index and the place are those of the
+/// first record with such a line.
+const VERDICTS: [(&str, Verdict); 31] = [
+    ("bank_wrap", passed(13)),
+    ("double_buffer", passed(16)),
+    ("empty", Verdict::NothingCompared),
+    ("freeze_flush", passed(10)),
+    ("long_11", differs(463, 67, 84, 800)),
+    ("long_138", differs(445, 62, 103, 979)),
+    ("long_17", differs(475, 68, 88, 832)),
+    ("longest", Verdict::NothingCompared),
+    ("mirrors", differs(13, 1, 14, 126)),
+    ("mismatch", differs(9, 7, 0, 0)),
+    ("past_length", passed(11)),
+    ("pipe_busy", passed(10)),
+    ("refused_after_mismatch", refused(10, 2, 1)),
+    ("refused_cut", refused(8, 1, 0)),
+    ("refused_first", refused(5, 0, 0)),
+    ("refused_kind", refused(7, 0, 0)),
+    ("refused_long", refused(9, 0, 0)),
+    ("refused_memory", refused(6, 1, 0)),
+    ("refused_memory_end", refused(6, 1, 0)),
+    ("refused_misaligned", refused(10, 2, 0)),
+    ("refused_misaligned_outside", refused(10, 1, 0)),
+    ("refused_past_mirrors", refused(5, 3, 0)),
+    ("refused_register", refused(5, 2, 0)),
+    ("refused_unaligned", refused(6, 1, 0)),
+    ("refused_zero_kind", refused(7, 2, 0)),
+    ("sync_full", passed(11)),
+    ("texture_load", passed(17)),
+    ("texture_store", passed(15)),
+    ("waiting_list", passed(13)),
+    ("whole_case", passed(1)),
+    ("xbus_list", passed(9)),
+];
+
+const fn passed(compared: u32) -> Verdict {
+    Verdict::Passed { compared }
+}
+
+const fn differs(compared: u32, differed: u32, first_index: u32, first_place: usize) -> Verdict {
+    Verdict::Differs {
+        compared,
+        differed,
+        first_index,
+        first_place,
+    }
+}
+
+const fn refused(number: u32, compared: u32, differed: u32) -> Verdict {
+    Verdict::Refused {
+        number,
+        compared,
+        differed,
+    }
+}
 
 fn folder() -> PathBuf {
     Path::new(env!("CARGO_MANIFEST_DIR")).join("../../crates/recordings/data")
@@ -21,15 +78,15 @@ fn last_line(replayed: &Replayed) -> String {
     }
 }
 
-/// The listing of a recording from power-up, as the replay program writes it.
-fn listing(recording: &[u8]) -> Vec<u8> {
+/// The listing of a recording from power-up, as the replay program writes it, and the verdict.
+fn replay(recording: &[u8]) -> (Vec<u8>, Verdict) {
     let (mut rdram, mut out) = (vec![0; RDRAM], vec![0; LISTING_BYTES]);
     let (mut dmem, mut imem) = ([0; BANK], [0; BANK]);
     let state = ofersky::power_up();
     let replayed = ofersky::replay(state, recording, &mut rdram, &mut dmem, &mut imem, &mut out);
     out.truncate(replayed.written);
     assert!(out.ends_with(last_line(&replayed).as_bytes()));
-    out
+    (out, verdict(&replayed))
 }
 
 /// The first line that differs: a whole listing is too long to read.
@@ -58,13 +115,16 @@ fn shipped_recordings() {
         let recording = fs::read(path).expect("a recording");
         let expected = fs::read(path.with_extension("listing"))
             .unwrap_or_else(|error| panic!("{name} has no listing: {error}"));
-        let given = listing(&recording);
+        let (given, verdict) = replay(&recording);
         let differs = || first_difference(&expected, &given);
         assert!(expected == given, "{name}: {}", differs());
+        let stem = name.trim_end_matches(".rec");
+        let known = VERDICTS.iter().find(|(known, _)| *known == stem);
+        assert_eq!(known, Some(&(stem, verdict)));
     }
     println!(
-        "compared {} shipped recordings with their listings",
+        "compared {} shipped recordings with their listings and verdicts",
         names.len()
     );
-    assert!(names.len() >= 24);
+    assert_eq!(names.len(), VERDICTS.len());
 }

@@ -12,8 +12,9 @@ use compare::seen::{model, Seen};
 use compare::states::sound;
 use compare::traffic::Traffic;
 use compare::values::not_register;
+use compare::verdicts::any_replayed;
 use compare::watch::Watch;
-use ofersky::LISTING_BYTES;
+use ofersky::{Findings, Verdict, LISTING_BYTES, NOTHING_COMPARED, PASSED};
 use std::panic::{catch_unwind, set_hook, take_hook, AssertUnwindSafe};
 
 /// The easy slip of the rules: SKIP is added after the last row too.
@@ -54,6 +55,25 @@ fn place_counts_records(case: &Case) -> Seen {
     let mut seen = model(case);
     if seen.number() != 0 {
         seen.place = seen.outcome.answer.count as usize;
+    }
+    seen
+}
+
+/// The findings dropped where the replay stops, so that a recording seems not to have differed before.
+fn drops_findings_of_a_stop(case: &Case) -> Seen {
+    let mut seen = model(case);
+    if seen.number() != 0 {
+        seen.findings = Findings::default();
+    }
+    seen
+}
+
+/// A pass where nothing was compared.
+fn passes_on_nothing(case: &Case) -> Seen {
+    let mut seen = model(case);
+    if seen.code == NOTHING_COMPARED {
+        seen.code = PASSED;
+        seen.verdict = Some(Verdict::Passed { compared: 0 });
     }
     seen
 }
@@ -134,6 +154,14 @@ fn stopped_recording(random: &mut Random) -> Case {
     case
 }
 
+/// A struct of any numbers, to be judged.
+fn verdict(random: &mut Random) -> Case {
+    let replayed = any_replayed(random);
+    let (state, lent) = (sound(random, 4_096), Lent::new(0, 0));
+    let call = Call::Verdict { replayed };
+    Case { state, lent, call }
+}
+
 fn bad_read(random: &mut Random) -> Case {
     let address = not_register(random);
     let (state, lent) = (ofersky::power_up(), Lent::new(0, 0));
@@ -178,8 +206,8 @@ fn shown_recording(report: &str) -> Vec<u8> {
     (0..hex.len() / 2).map(byte).collect()
 }
 
-/// The reports of these eight, with the panic's own message kept off the screen.
-fn reports() -> [String; 8] {
+/// The reports of these ten, with the panic's own message kept off the screen.
+fn reports() -> [String; 10] {
     let hook = take_hook();
     set_hook(Box::new(|_| {}));
     let reports = [
@@ -191,6 +219,8 @@ fn reports() -> [String; 8] {
         reported(clears_the_next_byte, "call", write_record),
         reported(place_counts_records, "recording", stopped_recording),
         reported(misaligned_refused_by_5, "call", bad_read),
+        reported(drops_findings_of_a_stop, "recording", stopped_recording),
+        reported(passes_on_nothing, "call", verdict),
     ];
     set_hook(hook);
     for report in &reports {
@@ -201,7 +231,8 @@ fn reports() -> [String; 8] {
 
 #[test]
 fn wrong_sides_are_found() {
-    let [skip, line_end, framing, declined, room, next_byte, place, number] = reports();
+    let [skip, line_end, framing, declined, room, next_byte, place, number, found, pass] =
+        reports();
 
     let shortest = shown_recording(&skip);
     assert!(skip.starts_with("difference at recording "));
@@ -228,6 +259,26 @@ fn wrong_sides_are_found() {
 
     stop_is_found(&place);
     assert!(number.contains("\n  number: expected 0xA by the model, given 0x5 by the library"));
+    dropped_findings_are_found(&found);
+    judged_struct_is_found(&pass);
+}
+
+/// What was compared before the stop is all that differs: one read or check suffices.
+fn dropped_findings_are_found(report: &str) {
+    let shortest = shown_recording(report);
+    assert_eq!(pieces(&shortest).len(), 2, "one record before it suffices");
+    assert!(matches!(shortest[0], 2 | 9));
+    let differs = "differs:\n  findings.compared: expected 0x1 by the model, given 0x0";
+    assert!(report.contains(differs));
+}
+
+/// Every number of the struct is lowered to 0, and the verdict is all that differs.
+fn judged_struct_is_found(report: &str) {
+    let all_zero = "verdict, number 0x0, value 0x0, count 0x0, written 0x0, place 0x0, \
+        compared 0x0, differed 0x0, first_index 0x0, first_place 0x0\nstate: as at power-up\n";
+    assert!(report.contains(all_zero));
+    let differs = "differs:\n  verdict: expected 0x66 by the model, given 0x64 by the library\n";
+    assert!(report.ends_with(differs));
 }
 
 /// The place is all that differs: where the second of two records begins.

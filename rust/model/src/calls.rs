@@ -9,6 +9,8 @@
 use crate::machine::{Dp, Machine, Sp, BANK_BYTES};
 use crate::recording::{self, Record};
 
+pub use crate::recording::Findings;
+
 /// The number for an RDRAM whose length is not allowed.
 pub const BAD_RDRAM: u32 = 1;
 /// The number for a DMEM that has not 4,096 bytes.
@@ -107,12 +109,49 @@ pub struct Reading {
 }
 
 /// A replay's outcome, the place where the refused record begins, which is 0 if
-/// there is none, and how many bytes of its listing were written.
+/// there is none, how many bytes of its listing were written, and what its reads
+/// and checks found.
 #[derive(Clone, Copy, Debug, Default, PartialEq, Eq)]
 pub struct Replayed {
     pub outcome: Outcome,
     pub place: usize,
     pub written: usize,
+    pub findings: Findings,
+}
+
+/// What a replay says of the recording.
+#[derive(Clone, Copy, Debug, PartialEq, Eq)]
+pub enum Verdict {
+    /// Every read and check found what it expects, and there was one at least.
+    Passed { compared: u32 },
+    /// It came to its end, and some found something else.
+    Differs {
+        compared: u32,
+        differed: u32,
+        first_index: u32,
+        first_place: usize,
+    },
+    /// It came to its end with nothing to compare, so it says nothing.
+    NothingCompared,
+    /// It did not come to its end, whatever was found before.
+    Refused {
+        number: u32,
+        compared: u32,
+        differed: u32,
+    },
+}
+
+impl Verdict {
+    /// The number that programs know a verdict by. None of them is 0, or a
+    /// number of a refusal.
+    pub fn code(&self) -> u32 {
+        match self {
+            Verdict::Passed { .. } => 100,
+            Verdict::Differs { .. } => 101,
+            Verdict::NothingCompared => 102,
+            Verdict::Refused { .. } => 103,
+        }
+    }
 }
 
 /// A flag's byte, if it is one.
@@ -525,5 +564,36 @@ pub fn replay(
         outcome: Outcome { state, answer },
         place: replay.place,
         written,
+        findings: replay.findings,
+    }
+}
+
+/// The verdict of a replay, for every value of the struct, also one that no
+/// replay gives.
+pub fn verdict(replayed: &Replayed) -> Verdict {
+    let number = replayed.outcome.answer.number;
+    let Findings {
+        compared,
+        differed,
+        first_index,
+        first_place,
+    } = replayed.findings;
+    if number != 0 {
+        Verdict::Refused {
+            number,
+            compared,
+            differed,
+        }
+    } else if differed > 0 {
+        Verdict::Differs {
+            compared,
+            differed,
+            first_index,
+            first_place,
+        }
+    } else if compared == 0 {
+        Verdict::NothingCompared
+    } else {
+        Verdict::Passed { compared }
     }
 }

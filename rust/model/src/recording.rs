@@ -53,7 +53,37 @@ pub struct Replay {
     /// Where in the recording the refused record begins. It is 0 if there is
     /// none: in a replay that ends, or is refused before its first record.
     pub place: usize,
+    pub findings: Findings,
     pub listing: String,
+}
+
+/// What the reads and memory checks of a replay found, over the records that
+/// were done. All of it is 0 in a replay that is refused before its first one.
+#[derive(Clone, Copy, Debug, Default, PartialEq, Eq)]
+pub struct Findings {
+    /// How many there were: each is compared with what it expects.
+    pub compared: u32,
+    /// How many of them found something else.
+    pub differed: u32,
+    /// The index among all records of the first that differed, from 0 on, and
+    /// where in the recording it begins. Both are 0 if none differed.
+    pub first_index: u32,
+    pub first_place: usize,
+}
+
+impl Findings {
+    /// Counts a read or a check that was done.
+    fn count(&mut self, as_expected: bool, index: u32, place: usize) {
+        self.compared += 1;
+        if as_expected {
+            return;
+        }
+        if self.differed == 0 {
+            self.first_index = index;
+            self.first_place = place;
+        }
+        self.differed += 1;
+    }
 }
 
 /// The bytes after the kind, or none for a kind that is unknown.
@@ -234,18 +264,28 @@ fn compared(letter: char, address: u32, digits: usize, found: u64, expected: u64
     }
 }
 
-/// Does one record and gives its part of the listing, which may be empty. If
-/// it gives a number, nothing of the record is done.
-pub fn apply<M>(machine: &mut Machine<M>, record: Record) -> Result<String, u32>
+/// What is seen of a record that was done.
+#[derive(Clone, Debug, Default, PartialEq, Eq)]
+pub struct Done {
+    /// Its part of the listing, which may be empty.
+    pub line: String,
+    /// Of a read or a check: whether it found what it expects.
+    pub as_expected: Option<bool>,
+}
+
+/// Does one record. If it gives a number, nothing of the record is done.
+pub fn apply<M>(machine: &mut Machine<M>, record: Record) -> Result<Done, u32>
 where
     M: DerefMut<Target = [u8]>,
 {
     let mut line = String::new();
+    let mut as_expected = None;
     match record {
         Record::Write { address, value } => machine.write(address, value)?,
         Record::Read { address, expected } => {
             let found = machine.read(address)?;
             line = compared('R', address, 8, found.into(), expected.into());
+            as_expected = Some(found == expected);
         }
         Record::SpRun { budget } => line = format!("S {:08X}\n", machine.sp_run(budget)),
         Record::DpRun { budget } => {
@@ -262,20 +302,20 @@ where
         Record::Check { address, expected } => {
             let found = memory_word(machine, address)?;
             line = compared('L', address, 16, found, expected);
+            as_expected = Some(expected == found);
         }
     }
-    Ok(line)
+    Ok(Done { line, as_expected })
 }
 
-/// Reads and does the record that stands first in these bytes. Gives the
-/// bytes it took.
-fn step<M>(machine: &mut Machine<M>, bytes: &[u8], listing: &mut String) -> Result<usize, u32>
+/// Reads and does the record that stands first in these bytes. Gives what is
+/// seen of it and the bytes it took.
+fn step<M>(machine: &mut Machine<M>, bytes: &[u8]) -> Result<(Done, usize), u32>
 where
     M: DerefMut<Target = [u8]>,
 {
     let (record, length) = Record::decode(bytes)?;
-    *listing += &apply(machine, record)?;
-    Ok(length)
+    Ok((apply(machine, record)?, length))
 }
 
 /// The listing's first line.
@@ -296,6 +336,7 @@ pub fn refused(number: u32) -> Replay {
         number,
         count: 0,
         place: 0,
+        findings: Findings::default(),
         listing: HEADER.to_string() + &last_line(number, 0, 0),
     }
 }
@@ -313,10 +354,15 @@ where
     let mut number = 0;
     let mut count = 0;
     let mut place = 0;
+    let mut findings = Findings::default();
     let mut rest = recording;
     while number == 0 && !rest.is_empty() {
-        match step(machine, rest, &mut listing) {
-            Ok(length) => {
+        match step(machine, rest) {
+            Ok((done, length)) => {
+                listing += &done.line;
+                if let Some(as_expected) = done.as_expected {
+                    findings.count(as_expected, count, recording.len() - rest.len());
+                }
                 rest = &rest[length..];
                 count += 1;
             }
@@ -331,6 +377,7 @@ where
         number,
         count,
         place,
+        findings,
         listing,
     }
 }

@@ -93,7 +93,7 @@ pub struct Answer {
     pub count: u32,
 }
 
-/// The next state, or after a refusal the state as handed in, and the answer.
+/// The next state, or after a refusal the state as handed in, and the answer. A replay that stops at a record gives the state that the records before it left.
 #[repr(C)]
 #[derive(Clone, Copy, Debug, Default, PartialEq, Eq)]
 pub struct Outcome {
@@ -129,7 +129,22 @@ pub struct Reading {
     pub number: u32,
 }
 
-/// What a replay gives: the state, number and count, how many bytes of the listing were written, and where it stopped.
+/// What the reads (kind 2) and memory checks (kind 9) of a replay found, over the records that it accepted, whatever stopped it.
+/// All of it is 0 for a replay that did not begin: 9, 1, 2, 3, 4.
+#[repr(C)]
+#[derive(Clone, Copy, Debug, Default, PartialEq, Eq)]
+pub struct Findings {
+    /// How many of them were compared with what they expect.
+    pub compared: u32,
+    /// How many found something else.
+    pub differed: u32,
+    /// The first that differed: its index among all records, from 0 on, and the byte of the recording where it begins.
+    /// Both are 0 where none differed.
+    pub first_index: u32,
+    pub first_place: usize,
+}
+
+/// What a replay gives: the state, number and count, how many bytes of the listing were written, where it stopped, and what it found.
 #[repr(C)]
 #[derive(Clone, Copy, Debug, Default, PartialEq, Eq)]
 pub struct Replayed {
@@ -137,7 +152,36 @@ pub struct Replayed {
     pub written: usize,
     /// The byte of the recording where the refused record begins. It is 0 where no record was refused: after success, and for 9, 1, 2, 3, 4.
     pub place: usize,
+    pub findings: Findings,
 }
+
+/// What a replay says of its recording. Only [`Verdict::Passed`] is a pass.
+#[derive(Clone, Copy, Debug, PartialEq, Eq)]
+pub enum Verdict {
+    /// It came to its end, and all that was compared was as expected.
+    Passed { compared: u32 },
+    /// It came to its end, and some of what was compared was not as expected.
+    Differs {
+        compared: u32,
+        differed: u32,
+        first_index: u32,
+        first_place: usize,
+    },
+    /// It came to its end, and nothing was compared.
+    NothingCompared,
+    /// It was refused by this number; what it compared before that may differ or not.
+    Refused {
+        number: u32,
+        compared: u32,
+        differed: u32,
+    },
+}
+
+/// The codes of the verdicts. No code is 0 or the number of a refusal.
+pub const PASSED: u32 = 100;
+pub const DIFFERS: u32 = 101;
+pub const NOTHING_COMPARED: u32 = 102;
+pub const REFUSED: u32 = 103;
 
 /// As many bytes always suffice for the listing of a replay.
 pub const LISTING_BYTES: usize = 69_204;
@@ -284,6 +328,60 @@ pub fn replay(
     let s = shared(recording);
     let [r, d, i, o] = [rdram, dmem, imem, out].map(lent);
     unsafe { raw::ofersky_replay(state, s.0, s.1, r.0, r.1, d.0, d.1, i.0, i.1, o.0, o.1) }
+}
+
+/// The verdict of a replay, for every value of the struct.
+///
+/// ```
+/// use ofersky::{Replayed, Verdict};
+///
+/// fn replay(recording: &[u8]) -> Replayed {
+///     let (mut rdram, mut dmem, mut imem) = ([0; 64], [0; 4096], [0; 4096]);
+///     let state = ofersky::power_up();
+///     ofersky::replay(state, recording, &mut rdram, &mut dmem, &mut imem, &mut [])
+/// }
+///
+/// // A BREAK sets two bits of SP STATUS; the read expects 3.
+/// let mut recording = [6, 2, 4, 4, 0, 0x10, 0, 0, 0, 3];
+/// assert_eq!(ofersky::verdict(&replay(&recording)), Verdict::Passed { compared: 1 });
+/// // It expects 2; the read is record 1 and begins at byte 1.
+/// recording[9] = 2;
+/// let differs = Verdict::Differs { compared: 1, differed: 1, first_index: 1, first_place: 1 };
+/// assert_eq!(ofersky::verdict(&replay(&recording)), differs);
+/// // The read is cut, and then left out.
+/// let refused = Verdict::Refused { number: 8, compared: 0, differed: 0 };
+/// assert_eq!(ofersky::verdict(&replay(&recording[..9])), refused);
+/// assert_eq!(ofersky::verdict(&replay(&recording[..1])), Verdict::NothingCompared);
+/// ```
+pub fn verdict(replayed: &Replayed) -> Verdict {
+    let number = replayed.outcome.answer.number;
+    let Findings {
+        compared,
+        differed,
+        first_index,
+        first_place,
+    } = replayed.findings;
+    match verdict_code(replayed) {
+        PASSED => Verdict::Passed { compared },
+        DIFFERS => Verdict::Differs {
+            compared,
+            differed,
+            first_index,
+            first_place,
+        },
+        NOTHING_COMPARED => Verdict::NothingCompared,
+        REFUSED => Verdict::Refused {
+            number,
+            compared,
+            differed,
+        },
+        code => unreachable!("{code} is no verdict"),
+    }
+}
+
+/// The verdict's code: [`PASSED`], [`DIFFERS`], [`NOTHING_COMPARED`] or [`REFUSED`].
+pub fn verdict_code(replayed: &Replayed) -> u32 {
+    unsafe { raw::ofersky_verdict(*replayed) }
 }
 
 /// A slice as C takes it.

@@ -77,4 +77,5 @@ extern "C" {
         out: *mut u8,
         out_bytes: usize,
     ) -> Replayed;
+    pub fn ofersky_verdict(r: Replayed) -> u32;
 }

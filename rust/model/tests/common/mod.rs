@@ -398,6 +398,7 @@ pub fn expect_replay(bench: &Bench, recording: &[u8], number: u32) {
     let (replayed, listing) = tried.replay(recording);
     assert_eq!(replayed.outcome, declined(&bench.state, number));
     assert_eq!(replayed.place, 0);
+    assert_eq!(replayed.findings, Findings::default());
     assert_eq!(listing, format!("replay 1\nstop 0 {number} 0\n"));
     assert!(tried == *bench);
 }

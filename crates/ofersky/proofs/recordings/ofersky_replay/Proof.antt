@@ -25,7 +25,7 @@ same-length-4 : tie.Need-same-length-4
 same-length-4 c = search needs
 
 returns : tie.Need-returns
-returns c = replay-given (c .before .before .before .before .before .before .before .before .before .before .before .before .before .before .before .decoded .ensures) (c .before .before .before .before .before .before .before .before .before .before .replay .ensures) (c .handed .ensures)
+returns c = replay-given (c .before .before .before .before .before .before .before .before .before .before .before .before .before .before .before .before .decoded .ensures) (c .before .before .before .before .before .before .before .before .before .before .before .replay .ensures) (c .before .handed .ensures)
 
 pub ofersky-replay-spec : {M : Type 1} → statement M
 ofersky-replay-spec =

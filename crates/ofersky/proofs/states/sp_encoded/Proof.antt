@@ -1,4 +1,4 @@
-use Rattle.ofersky.proofs.Handed.{flag-byte}
+use Rattle.player.proofs.Noting.{flag-byte}
 use borrow.Author.Needs.{needs}
 use Rattle.ofersky.proofs.states.sp_encoded.Statement.{statement}
 use Rattle.ofersky.proofs.states.sp_encoded.Tie as tie

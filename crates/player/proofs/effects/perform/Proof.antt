@@ -8,8 +8,8 @@ use Rattle.player.proofs.effects.perform.Tie as tie
 enum-told : tie.Need-enum-told
 enum-told c = search needs
 
-unchanged-requires : tie.Need-unchanged-requires
-unchanged-requires c κs = search needs
+uncompared-requires : tie.Need-uncompared-requires
+uncompared-requires c κs = search needs
 
 enum-known-item : tie.Need-enum-known-item
 enum-known-item c = search needs
@@ -71,8 +71,8 @@ enum-known-item-6 c = search needs
 store-at-requires : tie.Need-store-at-requires
 store-at-requires c κs = search needs
 
-unchanged-requires-2 : tie.Need-unchanged-requires-2
-unchanged-requires-2 c κs = search needs
+uncompared-requires-2 : tie.Need-uncompared-requires-2
+uncompared-requires-2 c κs = search needs
 
 enum-known-item-7 : tie.Need-enum-known-item-7
 enum-known-item-7 c = search needs
@@ -80,12 +80,11 @@ enum-known-item-7 c = search needs
 check-listed-requires : tie.Need-check-listed-requires
 check-listed-requires c κs = search needs
 
-unchanged-requires-3 : tie.Need-unchanged-requires-3
-unchanged-requires-3 c κs = search needs
-
 returns : tie.Need-returns
 unfolding after line
-returns c = state-kept (c .before .enum-told .given .1) (c .unchanged .ensures) refl refl (no-line (c .before .before .before .before .before .before .before .pre))
+returns c =
+    let u = c .uncompared .ensures in
+    state-kept (c .before .enum-told .given .1) (u .0) refl refl (no-line _ (u .1) (c .before .before .before .before .before .before .before .pre)) (u .2, u .3)
 
 returns-2 : tie.Need-returns-2
 unfolding after line
@@ -97,6 +96,8 @@ returns-2 c =
     (c .before .before .before .before .before .before .before .before .before .pre)
     refl
     refl
+    refl
+    refl
 
 same-length : tie.Need-same-length
 same-length c = search needs
@@ -104,12 +105,8 @@ same-length c = search needs
 returns-3 : tie.Need-returns-3
 unfolding after line
 returns-3 c =
-    listed-call
-    (c .before .before .before .before .before .item2 .given .1)
-    (c .before .before .read-listed .ensures)
-    refl
-    refl
-    refl
+    let l = c .before .before .read-listed .ensures in
+    listed-call (c .before .before .before .before .before .item2 .given .1) (l .0) refl refl refl (l .1)
 
 same-length-2 : tie.Need-same-length-2
 same-length-2 c = search needs
@@ -126,12 +123,8 @@ same-length-5 c = search needs
 returns-4 : tie.Need-returns-4
 unfolding after line
 returns-4 c =
-    listed-call
-    (c .before .before .before .before .before .before .before .before .before .before .before .before .before .before .item3 .given .1)
-    (c .before .before .before .before .before .before .before .before .sp-run-listed .ensures .0)
-    (c .before .before .before .before .before .before .before .before .sp-run-listed .ensures .1)
-    refl
-    refl
+    let l = c .before .before .before .before .before .before .before .before .sp-run-listed .ensures in
+    listed-call (c .before .before .before .before .before .before .before .before .before .before .before .before .before .before .item3 .given .1) (l .0) (l .1 .0) refl refl (l .1 .1)
 
 same-length-6 : tie.Need-same-length-6
 same-length-6 c = search needs
@@ -145,12 +138,8 @@ same-length-8 c = search needs
 returns-5 : tie.Need-returns-5
 unfolding after line
 returns-5 c =
-    listed-call
-    (c .before .before .before .before .before .before .before .item4 .given .1)
-    (c .before .before .dp-run-listed .ensures)
-    refl
-    refl
-    refl
+    let l = c .before .before .dp-run-listed .ensures in
+    listed-call (c .before .before .before .before .before .before .before .item4 .given .1) (l .0) refl refl refl (l .1)
 
 returns-6 : tie.Need-returns-6
 unfolding after line
@@ -160,6 +149,8 @@ returns-6 c =
     (c .before .tick .ensures .outcome)
     (c .unlisted2 .ensures)
     (c .before .before .before .before .before .before .before .before .before .pre)
+    refl
+    refl
     refl
     refl
 
@@ -173,6 +164,8 @@ returns-7 c =
     (c .before .before .before .before .before .before .before .before .pre)
     refl
     refl
+    refl
+    refl
 
 returns-8 : tie.Need-returns-8
 unfolding after line
@@ -182,6 +175,8 @@ returns-8 c =
     (c .before .acknowledge .ensures .outcome)
     (c .unlisted4 .ensures)
     (c .before .before .before .before .before .before .before .before .pre)
+    refl
+    refl
     refl
     refl
 
@@ -197,7 +192,8 @@ same-length-11 c = search needs
 returns-9 : tie.Need-returns-9
 unfolding after line
 returns-9 c =
-    state-kept (c .before .before .before .before .before .before .before .before .before .before .before .before .item6 .given .1) (c .unchanged2 .ensures) (c .before .before .before .before .before .before .before .store-at .ensures) refl (no-line (c .before .before .before .before .before .before .before .before .before .before .before .before .before .before .before .before .before .before .pre))
+    let u = c .uncompared2 .ensures in
+    state-kept (c .before .before .before .before .before .before .before .before .before .before .before .before .item6 .given .1) (u .0) (c .before .before .before .before .before .before .before .store-at .ensures) refl (no-line _ (u .1) (c .before .before .before .before .before .before .before .before .before .before .before .before .before .before .before .before .before .before .pre)) (u .2, u .3)
 
 same-length-12 : tie.Need-same-length-12
 same-length-12 c = search needs
@@ -213,14 +209,16 @@ same-length-15 c = search needs
 
 returns-10 : tie.Need-returns-10
 unfolding after line
-returns-10 c = state-kept (c .before .before .before .before .before .before .before .before .before .item7 .given .1) (c .unchanged3 .ensures) refl refl (c .before .before .before .check-listed .ensures)
+returns-10 c =
+    let l = c .before .before .check-listed .ensures in
+    state-kept (c .before .before .before .before .before .before .before .before .item7 .given .1) (l .0 .0) refl refl (l .0 .1) (l .1)
 
 pub perform-spec : {M : Type 1} → statement M
 perform-spec =
     tie.close
     (tie.spec
     enum-told
-    unchanged-requires
+    uncompared-requires
     enum-known-item
     write-register-requires
     unlisted-requires
@@ -241,10 +239,9 @@ perform-spec =
     unlisted-requires-4
     enum-known-item-6
     store-at-requires
-    unchanged-requires-2
+    uncompared-requires-2
     enum-known-item-7
     check-listed-requires
-    unchanged-requires-3
     returns
     returns-2
     same-length

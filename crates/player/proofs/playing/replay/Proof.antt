@@ -1,6 +1,7 @@
 use mathlib.Core.Path.{refl, sym, _∙_}
 use native.Mathlib.Omega.{arith}
-use Rattle.playback.proofs.Steps.{short-enough, replays-begun, replays-not}
+use Rattle.playback.proofs.Begins.{short-enough}
+use Rattle.playback.proofs.Steps.{replays-begun, replays-not}
 use borrow.Author.Needs.{needs}
 use Rattle.player.proofs.playing.replay.Statement.{statement}
 use Rattle.player.proofs.playing.replay.Tie as tie
@@ -35,6 +36,9 @@ returns c =
 put-stop-requires : tie.Need-put-stop-requires
 put-stop-requires c κs = search needs
 
+no-findings-requires : tie.Need-no-findings-requires
+no-findings-requires c κs = search needs
+
 replayed-requires : tie.Need-replayed-requires
 replayed-requires c κs = search needs
 
@@ -48,12 +52,14 @@ same-length-7 : tie.Need-same-length-7
 same-length-7 c = search needs
 
 same-length-8 : tie.Need-same-length-8
-same-length-8 c = search needs
+same-length-8 c = c .before .before .before .before .put-stop .kept .0 ∙ c .before .before .before .before .before .before .before .before .before .before .before .before .before .put-header .kept .0
 
 returns-2 : tie.Need-returns-2
 returns-2 c =
-    replays-not _ _ _ (c .before .before .before .before .before .before .replay-refusal .result) (c .before .before .before .before .before .before .replay-refusal .ensures) (c .before .before .before .before .before .if1 .left) (c .before .before .before .before .before .before .before .before .before .before .before .before .put-header .ensures)
-    (c .before .before .before .put-stop .ensures) (c .replayed .ensures .0) (c .replayed .ensures .1) (c .replayed .ensures .2) refl
+    let g = c .replayed .ensures in
+    let n = c .before .before .before .before .before .before .before .replay-refusal in
+    replays-not _ _ _ (n .result) (n .ensures) (c .before .before .before .before .before .before .if1 .left) (c .before .before .before .before .before .before .before .before .before .before .before .before .before .put-header .ensures) (c .before .before .before .before .put-stop .ensures) (g .0) (g .1) (g .2)
+    (g .3 ∙ c .before .no-findings .ensures) refl
 
 pub replay-spec : {M : Type 1} → statement M
 replay-spec =
@@ -68,6 +74,7 @@ replay-spec =
     same-length-4
     returns
     put-stop-requires
+    no-findings-requires
     replayed-requires
     same-length-5
     same-length-6

@@ -1,0 +1,180 @@
+//! The verdicts of replays: over structs that no replay gives, and over recordings whose wrong expectations are known.
+
+use compare::call::{Call, Case};
+use compare::comparison::Comparison;
+use compare::damage::{bad_address, bad_kind, LONGEST};
+use compare::fields::to_model;
+use compare::memory::Lent;
+use compare::random::Random;
+use compare::records::pieces;
+use compare::seen::Seen;
+use compare::states::{sound, unsound};
+use compare::totals::Found;
+use compare::traffic::{Traffic, NEVER};
+use compare::verdicts::{any_replayed, compared, findings_of};
+use compare::watch::Watch;
+use ofersky::{Findings, Replayed, State, Verdict, LISTING_BYTES};
+use std::ops::Range;
+
+/// The verdict of a struct, on both sides.
+fn judge(comparison: &mut Comparison, state: State, replayed: Replayed) -> Seen {
+    let lent = Lent::new(0, 0);
+    let call = Call::Verdict { replayed };
+    comparison.check(&Case { state, lent, call })
+}
+
+/// Every number that a call gives, the codes, and others.
+fn numbers() -> Vec<u32> {
+    let others = [100, 101, 102, 103, 255, 256, 1 << 16, 1 << 31, u32::MAX];
+    (0..20).chain(others).collect()
+}
+
+#[test]
+fn structs_that_no_replay_gives() {
+    let mut random = Random::of_test(61);
+    let mut comparison = Comparison::new("call");
+    let counts = [0, 1, 2, 255, 256, 1 << 16, 1 << 31, u32::MAX];
+    for number in numbers() {
+        for compared in counts {
+            for differed in counts {
+                let mut replayed = any_replayed(&mut random);
+                replayed.outcome.answer.number = number;
+                replayed.findings.compared = compared;
+                replayed.findings.differed = differed;
+                let state = sound(&mut random, 4_096);
+                judge(&mut comparison, state, replayed);
+            }
+        }
+    }
+    for _ in 0..40_000 {
+        let replayed = any_replayed(&mut random);
+        let state = match random.below(3) {
+            0 => ofersky::power_up(),
+            1 => sound(&mut random, 4_096),
+            _ => unsound(&mut random, 4_096),
+        };
+        judge(&mut comparison, state, replayed);
+    }
+    let nobody_set = judge(&mut comparison, State::default(), Replayed::default());
+    assert_eq!(nobody_set.verdict, Some(Verdict::NothingCompared));
+    let totals = &comparison.totals;
+    totals.expect_verdicts("verdict", [4_000, 8_000, 2_500, 8_000]);
+    println!(
+        "all verdicts: {}: {}",
+        totals.calls_line(),
+        totals.verdicts_line("verdict")
+    );
+}
+
+/// A recording of which every expectation is right, from this state.
+fn right(random: &mut Random, state: &State, lent: &Lent) -> Vec<u8> {
+    let scenes = 1 + random.below(8);
+    let mut traffic = Traffic::new(random, Watch::new(to_model(state), lent.bytes()));
+    traffic.wrong = NEVER;
+    for _ in 0..scenes {
+        traffic.scene();
+    }
+    let mut bytes = traffic.bytes;
+    let ends = pieces(&bytes).into_iter().map(|piece| piece.end);
+    let end = ends.take_while(|end| *end <= LONGEST).last();
+    bytes.truncate(end.unwrap_or(0));
+    bytes
+}
+
+/// Changes a bit of the expectations of some reads and checks: of none, one, some or all. Says of which.
+fn make_wrong(random: &mut Random, recording: &mut [u8]) -> Vec<bool> {
+    let compared = compared(recording, usize::MAX);
+    let style = random.below(4);
+    let one = random.place(compared.len().max(1));
+    let mut wrong = Vec::new();
+    for (i, (_, piece)) in compared.into_iter().enumerate() {
+        let this = match style {
+            0 => false,
+            1 => i == one,
+            2 => random.once_in(3),
+            _ => true,
+        };
+        if this {
+            let expected = piece.start + 5..piece.end;
+            recording[expected.start + random.place(expected.len())] ^= 1 << random.below(8);
+        }
+        wrong.push(this);
+    }
+    wrong
+}
+
+/// The recording with one record refused, or none; and how many are before that one.
+fn stopped(random: &mut Random, recording: Vec<u8>) -> (Vec<u8>, usize) {
+    let pieces = pieces(&recording);
+    if recording.is_empty() || random.once_in(2) {
+        return (recording, pieces.len());
+    }
+    let at = random.place(recording.len());
+    let damaged = match random.below(3) {
+        0 => Some(bad_kind(random, &recording)),
+        1 => bad_address(random, &recording, 4_096),
+        _ => Some(recording[..at].to_vec()),
+    };
+    let damaged = damaged.unwrap_or_else(|| recording.clone());
+    let same = |piece: &Range<usize>| damaged.get(piece.clone()) == recording.get(piece.clone());
+    let records = pieces.iter().take_while(|piece| same(piece)).count();
+    (damaged, records)
+}
+
+/// The verdict by its rule, of a replay that began.
+fn expected(number: u32, found: Findings) -> Verdict {
+    let Findings {
+        compared,
+        differed,
+        first_index,
+        first_place,
+    } = found;
+    match (number, differed, compared) {
+        (0, 0, 0) => Verdict::NothingCompared,
+        (0, 0, _) => Verdict::Passed { compared },
+        (0, _, _) => Verdict::Differs {
+            compared,
+            differed,
+            first_index,
+            first_place,
+        },
+        _ => Verdict::Refused {
+            number,
+            compared,
+            differed,
+        },
+    }
+}
+
+#[test]
+fn recordings_with_known_expectations() {
+    let mut random = Random::of_test(62);
+    let mut comparison = Comparison::new("recording");
+    for _ in 0..12_000 {
+        let lent = Lent::new(4_096, random.below(1 << 16));
+        let state = match random.below(2) {
+            0 => ofersky::power_up(),
+            _ => sound(&mut random, lent.rdram),
+        };
+        let mut recording = right(&mut random, &state, &lent);
+        let wrong = make_wrong(&mut random, &mut recording);
+        let (recording, records) = stopped(&mut random, recording);
+        let accepted = compared(&recording, records);
+        let found = findings_of(&accepted, &wrong[..accepted.len()]);
+        let out = random.pick(&[LISTING_BYTES, 0, 300]);
+        let call = Call::Replay { recording, out };
+        let seen = comparison.check(&Case { state, lent, call });
+        assert_eq!(seen.outcome.answer.count as usize, records);
+        assert_eq!(seen.findings, found);
+        assert_eq!(seen.verdict, Some(expected(seen.number(), found)));
+    }
+    let totals = &comparison.totals;
+    totals.expect_verdicts("replay", [1_000, 2_000, 1_000, 4_000]);
+    totals.expect_found(Found {
+        stopped: 1_000,
+        uncounted: 300,
+        later: 800,
+        several: 1_200,
+    });
+    println!("all verdicts of recordings: {}", totals.recordings_line());
+}
