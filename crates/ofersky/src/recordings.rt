@@ -1,4 +1,4 @@
-// The reader, the writer and the replay.
+// The reader, the writer, the replay and its verdict.
 use crate::states::decoded;
 use crate::states::handed;
 use host::HostReading;

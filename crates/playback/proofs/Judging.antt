@@ -24,7 +24,7 @@ use Rattle.playback.specs.declared.Verdict.the-variants.{Passed}
 use Rattle.playback.specs.Findings.{compared, differed, findings}
 use Rattle.playback.specs.Replay.{Played, lines, lastLine, replayRefusal, replay}
 use Rattle.playback.specs.Promised.{ReplayGives}
-use Rattle.playback.specs.Verdict.{judged, verdict, numberOf, comparedOf, differedOf, codeOf, Judged, Passes, EveryPass, EveryReplayShown}
+use Rattle.playback.specs.Verdict.{judged, verdict, numberOf, comparedOf, differedOf, VerdictGives, codeOf, Judged, Passes, EveryPass, EveryReplayShown}
 use Rattle.playback.proofs.Found.{lines-compared, lines-expected}
 use Rattle.playback.proofs.Steps.{replay-begun, replay-not}
 use Rattle.playback.proofs.Replaying.{by-refusal, not-begun, begun-outcome, begun-findings}
@@ -75,6 +75,11 @@ by-cases zero zero zero index place =
 -- Whatever was found
 pub every-judged : (number : ℕ) (f : Findings) → Judged number f
 every-judged number f = by-cases number (f .compared) (f .differed) (f .index) (f .place)
+
+pub verdict-given : {r : Replayed} {v : Verdict} → v ≡ verdict r → VerdictGives r v
+verdict-given {r} e =
+    let j = every-judged (r .outcome .answer .number) (r .findings) in
+    record { given = e; number = ap numberOf e ∙ j .number; compared = ap comparedOf e ∙ j .compared; differed = ap differedOf e ∙ j .differed }
 
 -- ---- A pass
 

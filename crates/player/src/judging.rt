@@ -3,7 +3,7 @@ use playback::Findings;
 use playback::Replayed;
 use playback::Verdict;
 ghost use mathlib.Core.Path.{_≡_};
-ghost use Rattle.playback.specs.Verdict.{judged, verdict};
+ghost use Rattle.playback.specs.Verdict.{judged, VerdictGives};
 
 // The verdict on a number and on what was found, whatever they are.
 pub fn judged(number: u32, f: Findings) -> Verdict
@@ -23,7 +23,7 @@ pub fn judged(number: u32, f: Findings) -> Verdict
 
 // The verdict on what a replay gave: refused, differs, nothing compared or passed, by the first that applies.
 pub fn verdict(r: Replayed) -> Verdict
-    ensures { λ v. ⌜ v ≡ verdict r ⌝ }
+    ensures { λ v. ⌜ VerdictGives r v ⌝ }
 {
     let outcome = r.outcome;
     let answer = outcome.answer;

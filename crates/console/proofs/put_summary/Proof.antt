@@ -35,28 +35,28 @@ same-length c = search needs
 
 returns : tie.Need-returns
 returns c =
-    by-verdict (c .before .before .before .before .before .before .before .before .before .before .before .before .args .r) (c .before .before .before .before .before .v .given .1) (c .before .before .before .before .before .before .before .verdict .ensures) (c .before .before .put-refused .ensures)
+    by-verdict (c .before .before .before .before .before .before .before .before .before .before .before .before .args .r) (c .before .before .before .before .before .v .given .1) (c .before .before .before .before .before .before .before .verdict .ensures .given) (c .before .before .put-refused .ensures)
 
 same-length-2 : tie.Need-same-length-2
 same-length-2 c = search needs
 
 returns-2 : tie.Need-returns-2
 returns-2 c =
-    by-verdict (c .before .before .before .before .before .before .before .before .before .before .before .before .args .r) (c .before .before .before .before .before .v2 .given .1) (c .before .before .before .before .before .before .before .verdict .ensures) (c .before .before .put-differs .ensures)
+    by-verdict (c .before .before .before .before .before .before .before .before .before .before .before .before .args .r) (c .before .before .before .before .before .v2 .given .1) (c .before .before .before .before .before .before .before .verdict .ensures .given) (c .before .before .put-differs .ensures)
 
 same-length-3 : tie.Need-same-length-3
 same-length-3 c = search needs
 
 returns-3 : tie.Need-returns-3
 returns-3 c =
-    by-verdict (c .before .before .before .before .before .before .before .before .before .before .before .args .r) (c .before .before .before .before .enum-told .given .1) (c .before .before .before .before .before .before .verdict .ensures) (c .before .before .put-nothing-compared .ensures)
+    by-verdict (c .before .before .before .before .before .before .before .before .before .before .before .args .r) (c .before .before .before .before .enum-told .given .1) (c .before .before .before .before .before .before .verdict .ensures .given) (c .before .before .put-nothing-compared .ensures)
 
 same-length-4 : tie.Need-same-length-4
 same-length-4 c = search needs
 
 returns-4 : tie.Need-returns-4
 returns-4 c =
-    by-verdict (c .before .before .before .before .before .before .before .before .before .before .before .before .args .r) (c .before .before .before .before .before .v3 .given .1) (c .before .before .before .before .before .before .before .verdict .ensures) (c .before .before .put-passed .ensures)
+    by-verdict (c .before .before .before .before .before .before .before .before .before .before .before .before .args .r) (c .before .before .before .before .before .v3 .given .1) (c .before .before .before .before .before .before .before .verdict .ensures .given) (c .before .before .put-passed .ensures)
 
 pub put-summary-spec : {M : Type 1} → statement M
 put-summary-spec =
