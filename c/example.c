@@ -1,5 +1,5 @@
-/* Loads two words to the end of IMEM, where the second wraps to its start; then writes the same traffic as a recording and replays it: as it is, with a
- * wrong expectation, without the read, and with a bad address. Each replay's verdict is shown.
+/* Loads two words to the end of IMEM, where the second wraps to its start, while a list of three words is fetched; then writes the load as a recording and
+ * replays it: as it is, with a wrong expectation, without the read, and with a bad address. Each replay's verdict is shown.
  *
  *     rt staticlib ofersky
  *     cc -I c c/example.c target/staticlib/libofersky.a -o example && ./example
@@ -8,7 +8,7 @@
 
 #include <stdio.h>
 
-static uint8_t rdram[32768], dmem[4096], imem[4096];
+static uint8_t rdram[32768], dmem[4096], imem[4096], words[64];
 
 /* A register write whose refusal, if there is one, is shown. */
 static ofersky_state written(ofersky_state s, uint32_t address, uint32_t value) {
@@ -17,17 +17,25 @@ static ofersky_state written(ofersky_state s, uint32_t address, uint32_t value) 
     return o.state;
 }
 
+/* What a register reads as. */
+static unsigned value_of(ofersky_state s, uint32_t address) {
+    return (unsigned)ofersky_read_register(s, address).answer.value;
+}
+
 static void calls(void) {
     ofersky_state s = ofersky_power_up();
     s = written(s, 0x04040000, 0x1FF8); /* SPADDR: the last word of IMEM */
     s = written(s, 0x04040008, 0x0F);   /* RDLEN: two words */
+    s = written(s, 0x04100000, 0x0100); /* START */
+    s = written(s, 0x04100004, 0x0118); /* END: three words */
     s = written(s, 0x04040002, 0);      /* not a multiple of 4 */
     s = written(s, 0x04040020, 0);      /* no register */
-    ofersky_outcome ran = ofersky_sp_run(s, 100, rdram, sizeof rdram, dmem, sizeof dmem, imem, sizeof imem);
-    ofersky_outcome read = ofersky_read_register(ran.state, 0x04040000);
-    printf("moved %u words, SPADDR %08X\n", ran.answer.count, (unsigned)read.answer.value);
-    ran.state.sp.busy = 2; /* no flag: an unsound state */
-    printf("refused by %u\n", ofersky_tick(ran.state, 1).answer.number);
+    ofersky_ran ran = ofersky_run(s, 100, 100, rdram, sizeof rdram, dmem, sizeof dmem, imem, sizeof imem, words, sizeof words);
+    s = ran.outcome.state;
+    printf("moved %u words, SPADDR %08X\n", ran.outcome.answer.count, value_of(s, 0x04040000));
+    printf("handed out %u words, CURRENT %08X\n", ran.words, value_of(s, 0x04100008));
+    s.sp.busy = 2; /* no flag: an unsound state */
+    printf("refused by %u\n", ofersky_tick(s, 1).answer.number);
 }
 
 /* What a replay says of its recording. Only OFERSKY_PASSED is a pass. */

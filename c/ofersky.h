@@ -3,7 +3,7 @@
  * Link target/staticlib/libofersky.a, which `rt staticlib ofersky` writes (x86-64 Linux).
  *
  * Every call takes every value of its parameters and answers it. Bad input is refused by the first number that applies: the state comes
- * back as handed in, value and count are 0, and no lent byte differs. A refused replay is the exception: what the records before the refused one
+ * back as handed in, value, count and words are 0, and no lent byte differs. A refused replay is the exception: what the records before the refused one
  * did stays done, the count is their number, and the listing is written.
  *
  * What a caller owes is what C always asks: a pointer points to as many bytes as the length beside it says (with length 0 it is still not NULL),
@@ -69,13 +69,19 @@ typedef struct {
     ofersky_answer answer;
 } ofersky_outcome;
 
+/* What a run gives. */
+typedef struct {
+    ofersky_outcome outcome; /* its count is the SP's: the words that it moved */
+    uint32_t words;          /* the DP's count: the words that it handed out, which stand in out */
+} ofersky_ran;
+
 /* Where the next drawing word stands: in RDRAM (memory 0) or in DMEM (memory 1), length bytes from offset on. The length is 8, or 0. */
 typedef struct {
     uint32_t memory, offset, length;
 } ofersky_part;
 
-/* A record. The value is the second field of kinds 1, 2, 8 and 9, and the only one of kinds 3, 4 and 5. A field that a kind does not have is 0 in a
- * record that is read, and plays no part in one that is written. */
+/* A record. The value is the second field of kinds 1, 2, 8 and 9, and the only one of kinds 3, 4 and 5; of kind 10 its upper half is the SP's budget and
+ * its lower half the DP's. A field that a kind does not have is 0 in a record that is read, and plays no part in one that is written. */
 typedef struct {
     uint64_t value;
     uint32_t address;
@@ -125,16 +131,18 @@ ofersky_outcome ofersky_tick(ofersky_state s, uint32_t n);
 ofersky_outcome ofersky_sp_break(ofersky_state s);
 ofersky_outcome ofersky_acknowledge(ofersky_state s);
 
-/* One SP turn; or turns until the budget is used or the engine is idle. Refusals: 1, 2, 3, 4. */
+/* One SP turn. Refusals: 1, 2, 3, 4. */
 ofersky_outcome ofersky_sp_turn(ofersky_state s, uint8_t *rdram, size_t rdram_bytes, uint8_t *dmem, size_t dmem_bytes, uint8_t *imem,
                                 size_t imem_bytes);
-ofersky_outcome ofersky_sp_run(ofersky_state s, uint32_t budget, uint8_t *rdram, size_t rdram_bytes, uint8_t *dmem, size_t dmem_bytes,
-                               uint8_t *imem, size_t imem_bytes);
 
-/* One DP turn, whose value is the word fetched; or turns until the budget is used, nothing is fetched or out is full. Refusals: 1, 2, 4. */
+/* One DP turn, whose value is the word fetched. Refusals: 1, 2, 4. */
 ofersky_outcome ofersky_dp_turn(ofersky_state s, const uint8_t *rdram, size_t rdram_bytes, const uint8_t *dmem, size_t dmem_bytes);
-ofersky_outcome ofersky_dp_run(ofersky_state s, uint32_t budget, const uint8_t *rdram, size_t rdram_bytes, const uint8_t *dmem,
-                               size_t dmem_bytes, uint8_t *out, size_t out_bytes);
+
+/* SP turn, DP turn, SP turn, and so on. An engine is passed over where a turn of it would do nothing or its budget is used, and the DP also where out
+ * has fewer than 8 bytes left; the run ends when both would be. The DP's words stand in out one after the other from its start on, and the rest of it is
+ * as before. Where both engines touch the same bytes, this order decides. Refusals: 1, 2, 3, 4. */
+ofersky_ran ofersky_run(ofersky_state s, uint32_t sp_budget, uint32_t dp_budget, uint8_t *rdram, size_t rdram_bytes, uint8_t *dmem,
+                        size_t dmem_bytes, uint8_t *imem, size_t imem_bytes, uint8_t *out, size_t out_bytes);
 
 /* Where the word stands that the next DP turn would hand out, or an empty part. It has no number. */
 ofersky_part ofersky_look_ahead(ofersky_state s, const uint8_t *rdram, size_t rdram_bytes, const uint8_t *dmem, size_t dmem_bytes);

@@ -10,11 +10,13 @@ use Rattle.sp.specs.State.{spPowerUp, withLatches, withWaiting}
 use Rattle.dp.specs.declared.DpState.{DpState}
 use Rattle.machine.specs.declared.State.{State}
 use Rattle.machine.specs.declared.Outcome.{Outcome}
+use Rattle.machine.specs.declared.Ran.{Ran}
 use Rattle.machine.specs.Sound.{powerUp, withSp}
 use Rattle.host.specs.declared.HostSp.{HostSp}
 use Rattle.host.specs.declared.HostDp.{HostDp}
 use Rattle.host.specs.declared.HostState.{HostState}
 use Rattle.host.specs.declared.HostOutcome.{HostOutcome}
+use Rattle.host.specs.declared.HostRan.{HostRan}
 
 -- A byte is a flag if it is 0 or 1
 abbrev pub isFlag : ℕ → Bool
@@ -158,3 +160,6 @@ encoded s = record { sp = spEncoded (s .sp); dp = dpEncoded (s .dp) }
 -- What a call gives back that gave o. A state with bytes that are no flags comes back as it went in
 unfoldable pub handed : HostState → Outcome → HostOutcome
 handed h o = record { state = cond (flags h) (encoded (o .state)) h; answer = o .answer }
+
+unfoldable pub ranHanded : HostState → Ran → HostRan
+ranHanded h r = record { outcome = handed h (r .outcome); words = r .words }

@@ -63,6 +63,13 @@ pub struct HostOutcome {
     pub answer: Answer,
 }
 
+// What a run gives: the answer's count is the SP's, and `words` is the DP's.
+#[repr(C)]
+pub struct HostRan {
+    pub outcome: HostOutcome,
+    pub words: u32,
+}
+
 // Where the next drawing word stands: in RDRAM (memory 0) or in DMEM (memory 1), from an offset on. The length is 8, or 0 for an empty part.
 #[repr(C)]
 pub struct HostPart {

@@ -130,9 +130,11 @@ fn m3(s: State, rdram: &mut [u8], dmem: &mut [u8], imem: &mut [u8]) {
     show_transfer(sp_turns(s, 87, rdram, dmem, imem));
 }
 
-// A run with the largest budget; shows its count.
+// A run of the SP with the largest budget; shows its count.
 fn whole_run(s: State, rdram: &mut [u8], dmem: &mut [u8], imem: &mut [u8]) -> State {
-    let o = engines::sp_run(s, 0xFFFFFFFF, rdram, dmem, imem);
+    let mut none = [0u8; 8];
+    let ran = engines::run(s, 0xFFFFFFFF, 0, rdram, dmem, imem, &mut none);
+    let o = ran.outcome;
     let answer = o.answer;
     show(answer.count as u64);
     after(o)

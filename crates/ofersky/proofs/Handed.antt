@@ -1,6 +1,6 @@
 -- What a call for a host gives, out of what the calls in its body give.
 use Prim.Native.Nat.{ℕ, _%_}
-use mathlib.Core.Path.{_≡_, ap, _∙_}
+use mathlib.Core.Path.{_≡_, ap, subst, _∙_}
 use mathlib.Core.Bool.{Bool, true, false, cond, _&&_}
 use mathlib.Core.List.{List}
 use lib.Dec.{eqb}
@@ -10,15 +10,17 @@ use Rattle.words.specs.Memory.{Memory}
 use Rattle.words.proofs.Bytes.{bytes-length}
 use Rattle.machine.specs.declared.State.{State}
 use Rattle.machine.specs.declared.Outcome.{Outcome}
+use Rattle.machine.specs.declared.Ran.{Ran}
+use Rattle.machine.specs.Runs.{endOfRun, run}
 use Rattle.machine.specs.Refusals.{dpRefusal}
 use Rattle.machine.specs.Look.{Part, rdramWord, dmemWord, rdramEmpty, dmemEmpty, shown, look}
-use Rattle.machine.specs.Promised.{partOf, LookGives}
+use Rattle.machine.specs.Promised.{RunGives, partOf, LookGives}
 use Rattle.playback.specs.declared.Replayed.{Replayed}
 use Rattle.playback.specs.Promised.{ReplayGives}
 use Rattle.host.specs.declared.HostState.{HostState}
 use Rattle.host.specs.declared.HostOutcome.{HostOutcome}
 use Rattle.host.specs.declared.HostPart.{HostPart}
-use Rattle.host.specs.States.{decoded, handed}
+use Rattle.host.specs.States.{decoded, handed, ranHanded}
 use Rattle.host.specs.Parts.{placed, partHanded}
 use Rattle.host.specs.Promised.{HostReplayGives}
 
@@ -26,6 +28,16 @@ use Rattle.host.specs.Promised.{HostReplayGives}
 pub handed-given : (h : HostState) {s : State} {o : Outcome} {r : HostOutcome} (call : State → Outcome)
     → s ≡ decoded h → o ≡ call s → r ≡ handed h o → r ≡ handed h (call (decoded h))
 handed-given h call d e g = g ∙ ap (handed h) (e ∙ ap call d)
+
+-- A run, which gives two counts
+pub run-given : (h : HostState) {a b : ℕ} {m m′ : Memory} {out out′ : List ℕ} {s : State} {r : Ran} {o : HostOutcome}
+    → s ≡ decoded h → RunGives s a b m out r m′ out′ → o ≡ handed h (r .outcome)
+    → (record { outcome = o; words = r .words } ≡ ranHanded h (run (decoded h) a b m out))
+    × ((m′ ≡ endOfRun (decoded h) a b m out .memory) × (out′ ≡ endOfRun (decoded h) a b m out .out))
+unfolding ranHanded
+run-given h {a} {b} {m} {m′} {out} {out′} {s} {r} {o} d g e =
+    let q : RunGives (decoded h) a b m out r m′ out′ = subst (λ (t : State). RunGives t a b m out r m′ out′) d g in
+    ((λ i. record { outcome = (e ∙ ap (λ (x : Ran). handed h (x .outcome)) (q .given)) i; words = q .given i .words }), (q .bytes, q .output))
 
 -- ---- The look: a part of n bytes as the code hands it over, by what XBUS selects
 

@@ -3,6 +3,7 @@ use crate::states::decoded;
 use crate::states::handed;
 use host::HostOutcome;
 use host::HostPart;
+use host::HostRan;
 use host::HostState;
 use words::fields::pick;
 ghost use mathlib.Core.Path.{_≡_};
@@ -11,9 +12,9 @@ ghost use Prim.Native.Nat.{_%_};
 ghost use lib.Dec.{eqb};
 ghost use Rattle.words.specs.Memory.{memory};
 ghost use Rattle.machine.specs.Turns.{spTurn, spTurnMemory, dpTurn};
-ghost use Rattle.machine.specs.Runs.{spRun, spRunMemory, dpRun, dpRunOutput};
+ghost use Rattle.machine.specs.Runs.{endOfRun, run};
 ghost use Rattle.machine.specs.Look.{look};
-ghost use Rattle.host.specs.States.{decoded, handed};
+ghost use Rattle.host.specs.States.{decoded, handed, ranHanded};
 ghost use Rattle.host.specs.Parts.{placed, partHanded};
 
 #[no_mangle]
@@ -31,21 +32,6 @@ pub extern "C" fn ofersky_sp_turn(
 }
 
 #[no_mangle]
-pub extern "C" fn ofersky_sp_run(
-    s: HostState,
-    budget: u32,
-    rdram: &mut [u8],
-    dmem: &mut [u8],
-    imem: &mut [u8],
-) -> HostOutcome
-    ensures outcome { λ r. ⌜ r ≡ handed s (spRun (decoded s) budget (memory (now (rdram .entry)) (now (dmem .entry)) (now (imem .entry)))) ⌝ }
-    ensures bytes { λ _. ⌜ memory (now (rdram .exit)) (now (dmem .exit)) (now (imem .exit))
-        ≡ spRunMemory (decoded s) budget (memory (now (rdram .entry)) (now (dmem .entry)) (now (imem .entry))) ⌝ }
-{
-    handed(s, engines::sp_run(decoded(s), budget, rdram, dmem, imem))
-}
-
-#[no_mangle]
 pub extern "C" fn ofersky_dp_turn(s: HostState, rdram: &[u8], dmem: &[u8]) -> HostOutcome
     ensures outcome { λ r. ⌜ r ≡ handed s (dpTurn (decoded s) (now (rdram .entry)) (now (dmem .entry))) ⌝ }
     ensures kept { λ _. ⌜ (now (rdram .exit) ≡ now (rdram .entry)) × (now (dmem .exit) ≡ now (dmem .entry)) ⌝ }
@@ -54,18 +40,28 @@ pub extern "C" fn ofersky_dp_turn(s: HostState, rdram: &[u8], dmem: &[u8]) -> Ho
 }
 
 #[no_mangle]
-pub extern "C" fn ofersky_dp_run(
+pub extern "C" fn ofersky_run(
     s: HostState,
-    budget: u32,
-    rdram: &[u8],
-    dmem: &[u8],
+    spbudget: u32,
+    dpbudget: u32,
+    rdram: &mut [u8],
+    dmem: &mut [u8],
+    imem: &mut [u8],
     out: &mut [u8],
-) -> HostOutcome
-    ensures outcome { λ r. ⌜ r ≡ handed s (dpRun (decoded s) budget (now (rdram .entry)) (now (dmem .entry)) (now (out .entry))) ⌝ }
-    ensures output { λ _. ⌜ now (out .exit) ≡ dpRunOutput (decoded s) budget (now (rdram .entry)) (now (dmem .entry)) (now (out .entry)) ⌝ }
-    ensures kept { λ _. ⌜ (now (rdram .exit) ≡ now (rdram .entry)) × (now (dmem .exit) ≡ now (dmem .entry)) ⌝ }
+) -> HostRan
+    ensures given { λ r. ⌜ r ≡ ranHanded s (run (decoded s) spbudget dpbudget
+        (memory (now (rdram .entry)) (now (dmem .entry)) (now (imem .entry))) (now (out .entry))) ⌝ }
+    ensures bytes { λ _. ⌜ memory (now (rdram .exit)) (now (dmem .exit)) (now (imem .exit))
+        ≡ endOfRun (decoded s) spbudget dpbudget (memory (now (rdram .entry)) (now (dmem .entry)) (now (imem .entry))) (now (out .entry)) .memory ⌝ }
+    ensures output { λ _. ⌜ now (out .exit)
+        ≡ endOfRun (decoded s) spbudget dpbudget (memory (now (rdram .entry)) (now (dmem .entry)) (now (imem .entry))) (now (out .entry)) .out ⌝ }
 {
-    handed(s, engines::dp_run(decoded(s), budget, rdram, dmem, out))
+    let ran = engines::run(decoded(s), spbudget, dpbudget, rdram, dmem, imem, out);
+    let done = ran.outcome;
+    HostRan {
+        outcome: handed(s, done),
+        words: ran.words,
+    }
 }
 
 // Where n bytes stand that a look shows: the word at CURRENT in the memory that XBUS selects, or that memory's start where there are none.

@@ -6,14 +6,13 @@ use lib.ListN.{replicate}
 use Rattle.words.specs.Memory.{bytesAt, loadWord, storeWord, wordValue, wordBytes}
 use Rattle.sp.specs.Transfer.{started, lengthWritten, nextWord, ended}
 use Rattle.sp.specs.Sound.{spSound}
-use Rattle.sp.specs.Turn.{spNext, spAfter, spTaken}
+use Rattle.sp.specs.Turn.{spNext, spMove}
 use Rattle.dp.specs.Sound.{dpSound}
-use Rattle.dp.specs.Turn.{dpTaken, dpAfter}
 use Rattle.machine.specs.Sound.{sound}
 use Rattle.machine.specs.Address.{registerAt}
-use Rattle.machine.specs.Refusals.{accessRefusal, spRefusal, dpRefusal}
+use Rattle.machine.specs.Refusals.{accessRefusal, spRefusal}
 use Rattle.machine.specs.Calls.{readRegister, writeRegister}
-use Rattle.machine.specs.Runs.{spRun, dpRun}
+use Rattle.machine.specs.Runs.{tried, round, rounds, merged, endOfRun, run}
 use Rattle.recording.specs.declared.Record.the-variants.{Write, Read, SpRun}
 use Rattle.recording.specs.Kinds.{decoded, recordOf}
 use Rattle.recording.specs.Fields.{ofKind, recordBy}
@@ -38,19 +37,19 @@ pub whole-case : (replay bytes start .text ≡ text)
     × (judged 0 (replay bytes start .findings) ≡ Passed 1)
 unfolding bytes start text replay replayRefusal spRefusal accessRefusal sound spSound dpSound registerAt
     splitFrom recordNumber recordOf decoded lines after line writeRegister readRegister
-    spRun spTaken spAfter spNext started lengthWritten nextWord ended
+    run endOfRun merged rounds round tried spMove spNext started lengthWritten nextWord ended
     runLine foundLine verdict hex decimal leading endLine total firstFrom judged
 whole-case = (refl, refl, refl, refl, refl, refl)
 
 pub stop-case : (replay stopBytes start .text ≡ stopText)
     × (replay stopBytes start .outcome .answer .number ≡ 7)
-    × (replay stopBytes start .outcome .answer .count ≡ 3)
-    × (replay stopBytes start .place ≡ 31)
+    × (replay stopBytes start .outcome .answer .count ≡ 4)
+    × (replay stopBytes start .place ≡ 40)
     × (replay stopBytes start .findings ≡ record { compared = 1; differed = 1; index = 1; place = 13 })
     × (judged 7 (replay stopBytes start .findings) ≡ Refused 7 1 1)
-unfolding stopBytes start stopText replay replayRefusal spRefusal dpRefusal sound spSound dpSound
+unfolding stopBytes start stopText replay replayRefusal spRefusal sound spSound dpSound
     splitFrom recordNumber recordOf decoded lines after line loadAt storeAt loadWord storeWord bytesAt wordValue wordBytes
-    dpRun dpTaken dpAfter
+    run endOfRun merged rounds round tried
     runLine foundLine verdict hex decimal leading stopLine total firstFrom judged
 stop-case = (refl, refl, refl, refl, refl, refl)
 

@@ -11,10 +11,9 @@ use borrow.Author.Tests.{ne-eqb}
 use Rattle.words.specs.Bits.{asBit}
 use Rattle.words.proofs.Tests.{by}
 use Rattle.machine.specs.Calls.{readRegister}
-use Rattle.machine.specs.Runs.{spRun}
 use Rattle.laws.specs.World.{World}
 use Rattle.recording.specs.declared.Record.{Record}
-use Rattle.recording.specs.declared.Record.the-variants.{None, Write, Read, SpRun, DpRun, Tick, Break, Acknowledge, Store, Check}
+use Rattle.recording.specs.declared.Record.the-variants.{None, Write, Read, SpRun, DpRun, Tick, Break, Acknowledge, Store, Check, Run}
 use Rattle.recording.specs.declared.Reading.{Reading}
 use Rattle.recording.specs.Fields.{recordSize}
 use Rattle.recording.specs.Reader.{found, longest, readRecord}
@@ -25,7 +24,7 @@ use Rattle.listing.specs.Text.{Text, letterS, letterD, letterR, letterL, hex}
 use Rattle.listing.specs.TakenApart.{countLines, comparedLine, begins, expectedLine}
 use Rattle.listing.proofs.TakenApart.{Counted, run-counted, found-counted}
 use Rattle.playback.specs.declared.Findings.{Findings}
-use Rattle.playback.specs.Effects.{loadAt, replayDpRun, after, line}
+use Rattle.playback.specs.Effects.{loadAt, replayRun, spLine, dpLine, after, line}
 use Rattle.playback.specs.Findings.{compares, differs, total, differed, compared, firstFrom, one, findings, noFindings}
 use Rattle.playback.specs.Replay.{afterAll, lines}
 use Rattle.playback.specs.Promised.{noted}
@@ -127,31 +126,44 @@ noted-none rs w =
 no-line : (test : Text → Bool) → Counted test false []
 no-line test t = sym (zero-add (countLines test [] t))
 
+-- Two lines of which neither counts
+both-counted : (test : Text → Bool) (x y : Text) → Counted test false x → Counted test false y → Counted test false (x ++ y)
+both-counted test x y f g t =
+    ap (countLines test []) (append-assoc x y t) ∙ f (y ++ t) ∙ ap (λ (n : ℕ). 0 + n) (g t ∙ zero-add (countLines test [] t))
+
 line-compared : (r : Record) (w : World) → Counted comparedLine (compares r) (line r w)
 unfolding line
 line-compared None w = no-line comparedLine
 line-compared (Write a v) w = no-line comparedLine
 line-compared (Read a v) w = found-counted comparedLine (λ (same : Bool). true) letterR false a (readRegister (w .state) a .answer .value) v refl refl refl
-line-compared (SpRun b) w = run-counted comparedLine false letterS (spRun (w .state) b (w .memory) .answer .count) refl refl
-line-compared (DpRun b) w = run-counted comparedLine false letterD (replayDpRun (w .state) b (w .memory) .answer .count) refl refl
+line-compared (SpRun b) w = run-counted comparedLine false letterS (replayRun w b 0 .outcome .answer .count) refl refl
+line-compared (DpRun b) w = run-counted comparedLine false letterD (replayRun w 0 b .words) refl refl
 line-compared (Tick n) w = no-line comparedLine
 line-compared Break w = no-line comparedLine
 line-compared Acknowledge w = no-line comparedLine
 line-compared (Store a word) w = no-line comparedLine
 line-compared (Check a word) w = found-counted comparedLine (λ (same : Bool). true) letterL true a (loadAt a (w .memory)) word refl refl refl
+line-compared (Run a b) w =
+    let r = replayRun w a b in
+    both-counted comparedLine (spLine r) (dpLine r) (run-counted comparedLine false letterS (r .outcome .answer .count) refl refl)
+    (run-counted comparedLine false letterD (r .words) refl refl)
 
 line-expected : (r : Record) (w : World) → Counted expectedLine (differs r w) (line r w)
 unfolding line hex begins
 line-expected None w = no-line expectedLine
 line-expected (Write a v) w = no-line expectedLine
 line-expected (Read a v) w = found-counted expectedLine not letterR false a (readRegister (w .state) a .answer .value) v refl refl refl
-line-expected (SpRun b) w = run-counted expectedLine false letterS (spRun (w .state) b (w .memory) .answer .count) refl refl
-line-expected (DpRun b) w = run-counted expectedLine false letterD (replayDpRun (w .state) b (w .memory) .answer .count) refl refl
+line-expected (SpRun b) w = run-counted expectedLine false letterS (replayRun w b 0 .outcome .answer .count) refl refl
+line-expected (DpRun b) w = run-counted expectedLine false letterD (replayRun w 0 b .words) refl refl
 line-expected (Tick n) w = no-line expectedLine
 line-expected Break w = no-line expectedLine
 line-expected Acknowledge w = no-line expectedLine
 line-expected (Store a word) w = no-line expectedLine
 line-expected (Check a word) w = found-counted expectedLine not letterL true a (loadAt a (w .memory)) word refl refl refl
+line-expected (Run a b) w =
+    let r = replayRun w a b in
+    both-counted expectedLine (spLine r) (dpLine r) (run-counted expectedLine false letterS (r .outcome .answer .count) refl refl)
+    (run-counted expectedLine false letterD (r .words) refl refl)
 
 -- All lines, and what stands after them
 lines-counted : (test : Text → Bool) (holds : Record → World → Bool) → ((r : Record) (w : World) → Counted test (holds r w) (line r w))

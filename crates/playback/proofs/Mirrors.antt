@@ -15,7 +15,7 @@ use Rattle.machine.proofs.Refusals.{if-accepted, if-refused}
 use Rattle.machine.proofs.Mirrors.{read-mirrored, write-mirrored}
 use Rattle.laws.specs.World.{World, world}
 use Rattle.recording.specs.declared.Record.{Record}
-use Rattle.recording.specs.declared.Record.the-variants.{None, Write, Read, SpRun, DpRun, Tick, Break, Acknowledge, Store, Check}
+use Rattle.recording.specs.declared.Record.the-variants.{None, Write, Read, SpRun, DpRun, Tick, Break, Acknowledge, Store, Check, Run}
 use Rattle.recording.specs.Kinds.{Bytes}
 use Rattle.recording.specs.Fields.{recordSize}
 use Rattle.recording.specs.Reader.{longest}
@@ -45,6 +45,7 @@ same-after Break w = refl
 same-after Acknowledge w = refl
 same-after (Store a word) w = refl
 same-after (Check a word) w = refl
+same-after (Run a b) w = refl
 
 same-line : (r : Record) (w : World) {rs : List Record} {x y : Text} → SameLines rs x y → SameLines (r ∷ rs) (line r w ++ x) (line (atFirstCopy r) w ++ y)
 unfolding line
@@ -58,6 +59,7 @@ same-line Break w h = others Break [] refl h
 same-line Acknowledge w h = others Acknowledge [] refl h
 same-line (Store a word) w h = others (Store a word) [] refl h
 same-line (Check a word) w h = others (Check a word) (line (Check a word) w) refl h
+same-line (Run a b) w h = others (Run a b) (line (Run a b) w) refl h
 
 -- ---- All records
 
@@ -78,6 +80,7 @@ same-compares Break = refl
 same-compares Acknowledge = refl
 same-compares (Store a word) = refl
 same-compares (Check a word) = refl
+same-compares (Run a b) = refl
 
 same-differs : (r : Record) (w : World) → differs (atFirstCopy r) w ≡ differs r w
 same-differs None w = refl
@@ -90,6 +93,7 @@ same-differs Break w = refl
 same-differs Acknowledge w = refl
 same-differs (Store a word) w = refl
 same-differs (Check a word) w = refl
+same-differs (Run a b) w = refl
 
 same-size : (r : Record) → recordSize (atFirstCopy r) ≡ recordSize r
 same-size None = refl
@@ -102,6 +106,7 @@ same-size Break = refl
 same-size Acknowledge = refl
 same-size (Store a word) = refl
 same-size (Check a word) = refl
+same-size (Run a b) = refl
 
 same-total : (test : Record → World → Bool) → ((r : Record) (w : World) → test (atFirstCopy r) w ≡ test r w)
     → (rs : List Record) (w : World) → total test (map atFirstCopy rs) w ≡ total test rs w

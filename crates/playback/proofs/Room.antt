@@ -7,7 +7,6 @@ use native.Mathlib.Omega.{arith}
 use lib.ListN.{length, length-append}
 use Rattle.machine.specs.Refusals.{ifRefused}
 use Rattle.machine.specs.Calls.{readRegister}
-use Rattle.machine.specs.Runs.{spRun}
 use Rattle.laws.specs.World.{World}
 use Rattle.recording.specs.declared.Record.{Record}
 use Rattle.recording.specs.Kinds.{four, eight, bodySize, size, decoded, kindOf, recordOf}
@@ -16,7 +15,7 @@ use Rattle.recording.specs.Split.{Split, stops, precedes, splitFrom, split}
 use Rattle.recording.proofs.Accepted.{accepted-whole}
 use Rattle.listing.specs.Text.{Text, letterS, letterD, letterR, letterL}
 use Rattle.listing.proofs.Lengths.{length-run, length-found, length-end, length-stop}
-use Rattle.playback.specs.Effects.{loadAt, replayDpRun, after, line}
+use Rattle.playback.specs.Effects.{loadAt, replayRun, spLine, dpLine, after, line}
 use Rattle.playback.specs.Replay.{lines, lastLine, played, notPlayed, headed, replayRefusal, replay}
 use Rattle.playback.specs.Theorems.{longestListing}
 use Rattle.playback.proofs.Begins.{short-enough}
@@ -28,15 +27,23 @@ unfolding decoded line
 line-of zero a v word w = omega arith
 line-of (suc zero) a v word w = omega arith
 line-of (suc (suc zero)) a v word w = omega (arith, length-found letterR false a (readRegister (w .state) a .answer .value) v)
-line-of (suc (suc (suc zero))) a v word w = omega (arith, length-run letterS (spRun (w .state) a (w .memory) .answer .count))
-line-of (suc (suc (suc (suc zero)))) a v word w = omega (arith, length-run letterD (replayDpRun (w .state) a (w .memory) .answer .count))
+line-of (suc (suc (suc zero))) a v word w = omega (arith, length-run letterS (replayRun w a 0 .outcome .answer .count))
+line-of (suc (suc (suc (suc zero)))) a v word w = omega (arith, length-run letterD (replayRun w 0 a .words))
 line-of (suc (suc (suc (suc (suc zero))))) a v word w = omega arith
 line-of (suc (suc (suc (suc (suc (suc zero)))))) a v word w = omega arith
 line-of (suc (suc (suc (suc (suc (suc (suc zero))))))) a v word w = omega arith
 line-of (suc (suc (suc (suc (suc (suc (suc (suc zero)))))))) a v word w = omega arith
 line-of (suc (suc (suc (suc (suc (suc (suc (suc (suc zero))))))))) a v word w =
     omega (arith, length-found letterL true a (loadAt a (w .memory)) word)
-line-of (suc (suc (suc (suc (suc (suc (suc (suc (suc (suc kind)))))))))) a v word w = omega arith
+line-of (suc (suc (suc (suc (suc (suc (suc (suc (suc (suc zero)))))))))) a v word w =
+    let r = replayRun w a v in
+    omega (
+      arith,
+      length-append (spLine r) (dpLine r),
+      length-run letterS (r .outcome .answer .count),
+      length-run letterD (r .words),
+    )
+line-of (suc (suc (suc (suc (suc (suc (suc (suc (suc (suc (suc kind))))))))))) a v word w = omega arith
 
 line-fits : (s : List ℕ) (w : World) → 9 * length (line (recordOf s) w) ≤ 38 * size (kindOf s)
 unfolding recordOf

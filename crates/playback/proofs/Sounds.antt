@@ -1,26 +1,24 @@
 -- Accepted records: their calls succeed, keep a sound state sound, and keep every memory's length.
 use Prim.Native.Nat.{ℕ, zero, suc, _+_}
 use mathlib.Core.Path.{_≡_, refl, _∙_}
-use mathlib.Core.Bool.{Bool, true, false}
+use mathlib.Core.Bool.{true}
 use mathlib.Core.List.{List, [], _∷_}
-use native.Mathlib.Omega.{arith}
 use lib.ListN.{length}
 use Rattle.words.specs.Memory.{Memory, Place, bytesOf, wordBytes}
 use Rattle.words.proofs.Bytes.{stored-length}
-use Rattle.sp.specs.Turn.{memoryAfter, spTaken}
-use Rattle.sp.proofs.Turn.{memory-length}
 use Rattle.machine.specs.declared.State.{State}
 use Rattle.machine.specs.Sound.{sound}
 use Rattle.machine.specs.Address.{registerAt}
-use Rattle.machine.specs.Refusals.{check, rdramAllowed, bankAllowed, registerNumber, stateRefusal, accessRefusal, spRefusal, dpRefusal, ifRefused}
-use Rattle.machine.specs.Runs.{spRunMemory}
+use Rattle.machine.specs.Refusals.{registerNumber, stateRefusal, accessRefusal, spRefusal, ifRefused}
+use Rattle.machine.specs.Runs.{endOfRun}
 use Rattle.machine.proofs.Sound.{facts}
-use Rattle.machine.proofs.Refusals.{sp-checked, read-answers, write-answers, tick-answers, break-answers, acknowledge-answers, sp-run-answers, dp-run-answers}
+use Rattle.machine.proofs.Refusals.{sp-checked, read-answers, write-answers, tick-answers, break-answers, acknowledge-answers, run-stays, run-answers}
 use Rattle.machine.proofs.Kept.{calls-keep-sound}
+use Rattle.machine.proofs.Runs.{run-ends}
 use Rattle.laws.specs.World.{World}
 use Rattle.laws.proofs.Answers.{sp-alike}
 use Rattle.recording.specs.declared.Record.{Record}
-use Rattle.recording.specs.declared.Record.the-variants.{None, Write, Read, SpRun, DpRun, Tick, Break, Acknowledge, Store, Check}
+use Rattle.recording.specs.declared.Record.the-variants.{None, Write, Read, SpRun, DpRun, Tick, Break, Acknowledge, Store, Check, Run}
 use Rattle.recording.specs.Kinds.{bodySize, size, recordOf}
 use Rattle.recording.specs.Fields.{Fits}
 use Rattle.recording.specs.Reader.{addressNumber, recordNumber}
@@ -60,13 +58,14 @@ unfolding after
 keeps-sound None w f e = e
 keeps-sound (Write a v) w f e = calls-keep-sound (w .state) e .write a v (f .1)
 keeps-sound (Read a v) w f e = calls-keep-sound (w .state) e .read a
-keeps-sound (SpRun budget) w f e = calls-keep-sound (w .state) e .spRun budget (w .memory)
-keeps-sound (DpRun budget) w f e = calls-keep-sound (w .state) e .dpRun budget (w .memory .rdram) (w .memory .dmem) room
+keeps-sound (SpRun budget) w f e = calls-keep-sound (w .state) e .run budget 0 (w .memory) room
+keeps-sound (DpRun budget) w f e = calls-keep-sound (w .state) e .run 0 budget (w .memory) room
 keeps-sound (Tick n) w f e = calls-keep-sound (w .state) e .tick n
 keeps-sound Break w f e = calls-keep-sound (w .state) e .break
 keeps-sound Acknowledge w f e = calls-keep-sound (w .state) e .acknowledge
 keeps-sound (Store a word) w f e = e
 keeps-sound (Check a word) w f e = e
+keeps-sound (Run a b) w f e = calls-keep-sound (w .state) e .run a b (w .memory) room
 
 pub all-keep-sound : (rs : List Record) (w : World) → AllFit rs → sound (w .state) ≡ true → sound (afterAll rs w .state) ≡ true
 unfolding afterAll
@@ -75,17 +74,14 @@ all-keep-sound (r ∷ rs) w f e = all-keep-sound rs (after r w) (f .1) (keeps-so
 
 -- ---- Lengths of memory
 
--- A declined run leaves the memory as it was
-either-length : (n : ℕ) (m m′ : Memory) (p : Place) → length (bytesOf p m′) ≡ length (bytesOf p m)
-    → length (bytesOf p (ifRefused n m m′)) ≡ length (bytesOf p m)
-either-length zero m m′ p h = h
-either-length (suc n) m m′ p h = refl
-
-run-length : (s : State) (budget : ℕ) (m : Memory) (p : Place) → length (bytesOf p (spRunMemory s budget m)) ≡ length (bytesOf p m)
-unfolding spRunMemory
-run-length s budget m p =
-    let n = spTaken budget (s .sp) in
-    either-length (spRefusal s m) m (memoryAfter n (s .sp) m) p (memory-length n (s .sp) m p)
+-- A run, declined or not
+run-length : (s : State) (spbudget dpbudget : ℕ) (m : Memory) (p : Place)
+    → length (bytesOf p (endOfRun s spbudget dpbudget m room .memory)) ≡ length (bytesOf p m)
+run-length s spbudget dpbudget m p = go (spRefusal s m) refl
+  where
+    go : (n : ℕ) → spRefusal s m ≡ n → length (bytesOf p (endOfRun s spbudget dpbudget m room .memory)) ≡ length (bytesOf p m)
+    go zero z = run-ends s m room z spbudget dpbudget .places p
+    go (suc n) z = rw (run-stays s spbudget dpbudget m room n z)
 
 store-at-length : (a word : ℕ) (m : Memory) (p : Place) → length (bytesOf p (storeAt a word m)) ≡ length (bytesOf p m)
 unfolding storeAt
@@ -96,13 +92,14 @@ unfolding after
 keeps-lengths None w p = refl
 keeps-lengths (Write a v) w p = refl
 keeps-lengths (Read a v) w p = refl
-keeps-lengths (SpRun budget) w p = run-length (w .state) budget (w .memory) p
-keeps-lengths (DpRun budget) w p = refl
+keeps-lengths (SpRun budget) w p = run-length (w .state) budget 0 (w .memory) p
+keeps-lengths (DpRun budget) w p = run-length (w .state) 0 budget (w .memory) p
 keeps-lengths (Tick n) w p = refl
 keeps-lengths Break w p = refl
 keeps-lengths Acknowledge w p = refl
 keeps-lengths (Store a word) w p = store-at-length a word (w .memory) p
 keeps-lengths (Check a word) w p = refl
+keeps-lengths (Run a b) w p = run-length (w .state) a b (w .memory) p
 
 pub all-keep-lengths : (rs : List Record) (w : World) (p : Place) → length (bytesOf p (afterAll rs w .memory)) ≡ length (bytesOf p (w .memory))
 unfolding afterAll
@@ -120,30 +117,18 @@ access-passes : (s : State) (a : ℕ) → sound s ≡ true → registerNumber (r
 unfolding accessRefusal
 access-passes s a e h = rw e h
 
--- A DP call checks a part of what an SP call checks
-fewer : (r d i s : Bool) → check r 1 (check d 2 (check i 3 (check s 4 0))) ≡ 0 → check r 1 (check d 2 (check s 4 0)) ≡ 0
-fewer true true true s e = e
-fewer true true false s e = absurd (let z : _≡_ {A = ℕ} 3 0 = e in omega arith)
-fewer true false i s e = e
-fewer false d i s e = e
-
-dp-passes : (s : State) (m : Memory) → spRefusal s m ≡ 0 → dpRefusal s (m .rdram) (m .dmem) ≡ 0
-unfolding spRefusal dpRefusal
-dp-passes s m e =
-    fewer (rdramAllowed (length (m .rdram))) (bankAllowed (length (m .dmem))) (bankAllowed (length (m .imem))) (sound s) e
-
 pub succeeds : (r : Record) (w : World) → addressNumber r ≡ 0 → spRefusal (w .state) (w .memory) ≡ 0 → callNumber r w ≡ 0
 succeeds None w h z = refl
 succeeds (Write a v) w h z = write-answers (w .state) a v .number ∙ access-passes (w .state) a (sp-checked (w .state) (w .memory) z) h
 succeeds (Read a v) w h z = read-answers (w .state) a .number ∙ access-passes (w .state) a (sp-checked (w .state) (w .memory) z) h
-succeeds (SpRun budget) w h z = sp-run-answers (w .state) budget (w .memory) .number ∙ z
-succeeds (DpRun budget) w h z =
-    dp-run-answers (w .state) budget (w .memory .rdram) (w .memory .dmem) room .number ∙ dp-passes (w .state) (w .memory) z
+succeeds (SpRun budget) w h z = run-answers (w .state) budget 0 (w .memory) room .number ∙ z
+succeeds (DpRun budget) w h z = run-answers (w .state) 0 budget (w .memory) room .number ∙ z
 succeeds (Tick n) w h z = tick-answers (w .state) n .number ∙ state-passes (w .state) (sp-checked (w .state) (w .memory) z)
 succeeds Break w h z = break-answers (w .state) .number ∙ state-passes (w .state) (sp-checked (w .state) (w .memory) z)
 succeeds Acknowledge w h z = acknowledge-answers (w .state) .number ∙ state-passes (w .state) (sp-checked (w .state) (w .memory) z)
 succeeds (Store a word) w h z = refl
 succeeds (Check a word) w h z = refl
+succeeds (Run a b) w h z = run-answers (w .state) a b (w .memory) room .number ∙ z
 
 -- A record leaves an input that passes the checks again
 passes-again : (r : Record) (w : World) → Fits r → spRefusal (w .state) (w .memory) ≡ 0 → spRefusal (after r w .state) (after r w .memory) ≡ 0

@@ -43,8 +43,10 @@ stopBytes =
     ∷ 0x09 ∷ 0x04 ∷ 0x00 ∷ 0x1F ∷ 0xF8 ∷ 0x00 ∷ 0x00 ∷ 0x00 ∷ 0x00 ∷ 0x00 ∷ 0x00 ∷ 0x00 ∷ 0x01
     -- DP run with budget 16, where no list runs
     ∷ 0x04 ∷ 0x00 ∷ 0x00 ∷ 0x00 ∷ 0x10
-    -- Kind 10, which is unknown; then a BREAK, which is not reached
-    ∷ 0x0A ∷ 0x06
+    -- A run with budgets 2 and 16, where nothing runs
+    ∷ 0x0A ∷ 0x00 ∷ 0x00 ∷ 0x00 ∷ 0x02 ∷ 0x00 ∷ 0x00 ∷ 0x00 ∷ 0x10
+    -- Kind 11, which is unknown; then a BREAK, which is not reached
+    ∷ 0x0B ∷ 0x06
     ∷ []
 
 unfoldable pub stopText : Text
@@ -56,6 +58,10 @@ stopText =
     ∷ 32 ∷ 101 ∷ 120 ∷ 112 ∷ 101 ∷ 99 ∷ 116 ∷ 101 ∷ 100 ∷ 32 ∷ 48 ∷ 48 ∷ 48 ∷ 48 ∷ 48 ∷ 48 ∷ 48 ∷ 48 ∷ 48 ∷ 48 ∷ 48 ∷ 48 ∷ 48 ∷ 48 ∷ 48 ∷ 49 ∷ 10
     -- `D 00000000`
     ∷ 68 ∷ 32 ∷ 48 ∷ 48 ∷ 48 ∷ 48 ∷ 48 ∷ 48 ∷ 48 ∷ 48 ∷ 10
-    -- `stop 3 7 31`
-    ∷ 115 ∷ 116 ∷ 111 ∷ 112 ∷ 32 ∷ 51 ∷ 32 ∷ 55 ∷ 32 ∷ 51 ∷ 49 ∷ 10
+    -- `S 00000000`
+    ∷ 83 ∷ 32 ∷ 48 ∷ 48 ∷ 48 ∷ 48 ∷ 48 ∷ 48 ∷ 48 ∷ 48 ∷ 10
+    -- `D 00000000`
+    ∷ 68 ∷ 32 ∷ 48 ∷ 48 ∷ 48 ∷ 48 ∷ 48 ∷ 48 ∷ 48 ∷ 48 ∷ 10
+    -- `stop 4 7 40`
+    ∷ 115 ∷ 116 ∷ 111 ∷ 112 ∷ 32 ∷ 52 ∷ 32 ∷ 55 ∷ 32 ∷ 52 ∷ 48 ∷ 10
     ∷ []

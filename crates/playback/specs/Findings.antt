@@ -7,7 +7,7 @@ use Rattle.words.specs.Bits.{asBit}
 use Rattle.machine.specs.Calls.{readRegister}
 use Rattle.laws.specs.World.{World}
 use Rattle.recording.specs.declared.Record.{Record}
-use Rattle.recording.specs.declared.Record.the-variants.{None, Write, Read, SpRun, DpRun, Tick, Break, Acknowledge, Store, Check}
+use Rattle.recording.specs.declared.Record.the-variants.{None, Write, Read, SpRun, DpRun, Tick, Break, Acknowledge, Store, Check, Run}
 use Rattle.recording.specs.Fields.{recordSize}
 use Rattle.playback.specs.declared.Findings.{Findings}
 use Rattle.playback.specs.Effects.{loadAt, after}
@@ -24,6 +24,7 @@ compares Break = false
 compares Acknowledge = false
 compares (Store a word) = false
 compares (Check a word) = true
+compares (Run spbudget dpbudget) = false
 
 -- It compares, and the value found is not the value expected
 abbrev pub differs : Record → World → Bool
@@ -37,6 +38,7 @@ differs Break w = false
 differs Acknowledge w = false
 differs (Store a word) w = false
 differs (Check a word) w = not (eqb (loadAt a (w .memory)) word)
+differs (Run spbudget dpbudget) w = false
 
 -- How many of the records a test holds for, each in the world that the records before it left
 unfoldable pub total : (Record → World → Bool) → List Record → World → ℕ

@@ -1,4 +1,5 @@
 pub mod Effects
+pub mod Runs
 pub mod Stores
 pub mod Findings
 pub mod Replay

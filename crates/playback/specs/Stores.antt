@@ -1,11 +1,11 @@
--- What records do to memory: only SP runs and stores change it, a store changes one word, and a check finds what was stored.
+-- What records do to memory: only runs with an SP budget and stores change it, a store changes one word, and a check finds what was stored.
 use Prim.Native.Nat.{ℕ, _<_}
 use mathlib.Core.Path.{_≡_}
 use mathlib.Core.Bool.{Bool, true, false}
 use Rattle.words.specs.Memory.{Memory, RDRAM, DMEM, IMEM, bytesOf, fitted}
 use Rattle.laws.specs.World.{World}
 use Rattle.recording.specs.declared.Record.{Record}
-use Rattle.recording.specs.declared.Record.the-variants.{None, Write, Read, SpRun, DpRun, Tick, Break, Acknowledge, Store, Check}
+use Rattle.recording.specs.declared.Record.the-variants.{None, Write, Read, SpRun, DpRun, Tick, Break, Acknowledge, Store, Check, Run}
 use Rattle.recording.specs.Reader.{memoryAllowed}
 use Rattle.playback.specs.Effects.{placeAt, offsetAt, loadAt, storeAt, after}
 
@@ -32,7 +32,7 @@ pub record Edges : Type 0 where
   pub firstOfImem : (placeAt 0x04001000 ≡ IMEM) × (offsetAt 0x04001000 ≡ 0)
   pub lastOfImem : (placeAt 0x04001FF8 ≡ IMEM) × (offsetAt 0x04001FF8 ≡ 0xFF8)
 
--- The records that leave memory alone: all but SP runs and stores
+-- The records that leave memory alone: all but runs with an SP budget and stores
 abbrev pub keepsMemory : Record → Bool
 keepsMemory None = true
 keepsMemory (Write a v) = true
@@ -44,6 +44,7 @@ keepsMemory Break = true
 keepsMemory Acknowledge = true
 keepsMemory (Store a word) = false
 keepsMemory (Check a word) = true
+keepsMemory (Run spbudget dpbudget) = false
 
 pub record LeftAlone (w : World) : Type 0 where
   pub memory : (r : Record) → keepsMemory r ≡ true → after r w .memory ≡ w .memory

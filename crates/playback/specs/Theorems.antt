@@ -10,16 +10,15 @@ use Rattle.machine.specs.declared.State.{State}
 use Rattle.machine.specs.Sound.{sound}
 use Rattle.machine.specs.Refusals.{spRefusal, declined}
 use Rattle.machine.specs.Calls.{readRegister, writeRegister, tick, break, acknowledge}
-use Rattle.machine.specs.Runs.{spRun}
 use Rattle.laws.specs.World.{World, world}
 use Rattle.recording.specs.declared.Record.{Record}
-use Rattle.recording.specs.declared.Record.the-variants.{None, Write, Read, SpRun, DpRun, Tick, Break, Acknowledge, Store, Check}
+use Rattle.recording.specs.declared.Record.the-variants.{None, Write, Read, SpRun, DpRun, Tick, Break, Acknowledge, Store, Check, Run}
 use Rattle.recording.specs.Kinds.{Bytes}
 use Rattle.recording.specs.Reader.{refused, readRecord}
 use Rattle.recording.specs.Split.{ReadOn}
 use Rattle.listing.specs.Text.{header, stopLine}
 use Rattle.playback.specs.declared.Replayed.{Replayed}
-use Rattle.playback.specs.Effects.{replayDpRun, after}
+use Rattle.playback.specs.Effects.{replayRun, after}
 use Rattle.playback.specs.Findings.{differs, differed, findings, noFindings}
 use Rattle.playback.specs.Replay.{afterAll, lines, lastLine, replayRefusal, replay}
 use Rattle.playback.specs.Promised.{ReplayGives}
@@ -29,13 +28,14 @@ abbrev pub callNumber : Record → World → ℕ
 callNumber None w = 0
 callNumber (Write a v) w = writeRegister (w .state) a v .answer .number
 callNumber (Read a v) w = readRegister (w .state) a .answer .number
-callNumber (SpRun budget) w = spRun (w .state) budget (w .memory) .answer .number
-callNumber (DpRun budget) w = replayDpRun (w .state) budget (w .memory) .answer .number
+callNumber (SpRun budget) w = replayRun w budget 0 .outcome .answer .number
+callNumber (DpRun budget) w = replayRun w 0 budget .outcome .answer .number
 callNumber (Tick n) w = tick (w .state) n .answer .number
 callNumber Break w = break (w .state) .answer .number
 callNumber Acknowledge w = acknowledge (w .state) .answer .number
 callNumber (Store a word) w = 0
 callNumber (Check a word) w = 0
+callNumber (Run spbudget dpbudget) w = replayRun w spbudget dpbudget .outcome .answer .number
 
 -- Each record's call succeeds in the world that the records before it left
 abbrev pub Succeed : List Record → World → Type 0

@@ -1,20 +1,24 @@
 -- What a record does, and its line, out of what the calls in its arm give.
 use Prim.Native.Nat.{ℕ, _%_, _≤_, _<_}
-use mathlib.Core.Path.{_≡_, sym, ap, _∙_}
+use mathlib.Core.Path.{_≡_, sym, ap, subst, _∙_}
 use mathlib.Core.Bool.{Bool, false}
-use mathlib.Core.List.{List, []}
+use mathlib.Core.List.{List, [], _++_}
 use native.Mathlib.Omega.{arith}
 use lib.ListN.{length}
 use borrow.Author.Tests.{lt-ltb, le-ltb}
 use Rattle.words.specs.Memory.{Memory, memory, loadWord, storeWord, wordValue, wordBytes}
 use Rattle.machine.specs.declared.State.{State}
 use Rattle.machine.specs.declared.Outcome.{Outcome}
+use Rattle.machine.specs.declared.Ran.{Ran}
+use Rattle.machine.specs.Promised.{RunGives}
+use Rattle.machine.proofs.Runs.{output-unused}
 use Rattle.laws.specs.World.{World, world}
 use Rattle.recording.specs.declared.Record.{Record}
+use Rattle.recording.specs.declared.Record.the-variants.{SpRun, DpRun, Run}
 use Rattle.listing.specs.Text.{Text}
 use Rattle.listing.specs.Put.{Put}
-use Rattle.listing.proofs.Putting.{nothing}
-use Rattle.playback.specs.Effects.{loadAt, storeAt, after, line}
+use Rattle.listing.proofs.Putting.{_then_, nothing}
+use Rattle.playback.specs.Effects.{room, replayRun, afterRun, spLine, dpLine, loadAt, storeAt, after, line}
 use Rattle.playback.specs.Findings.{compares, differs}
 use Rattle.playback.specs.Promised.{ShowGives, PerformGives}
 
@@ -55,12 +59,57 @@ pub shown : {o o′ : Outcome} {d d′ : List ℕ} {at place : ℕ} (text : Outc
     → o ≡ o′ → Put d at (text o) d′ place → ShowGives o′ (text o′) d at (o .state) d′ place
 shown text e p = record { given = ap (λ (x : Outcome). x .state) e; listed = rw e at p }
 
--- A run, whose text tells of its count and which compares nothing
-pub run-shown : {o o′ : Outcome} {d d′ : List ℕ} {at place place′ : ℕ} {next : State} {compared differed : Bool} (text : Outcome → Text)
-    → o ≡ o′ → Put d at (text o) d′ place → (next ≡ o .state) × (place′ ≡ place) × (compared ≡ false) × (differed ≡ false)
-    → ShowGives o′ (text o′) d at next d′ place′ × ((compared ≡ false) × (differed ≡ false))
-run-shown text e p u =
-    (record { given = u .0 ∙ ap (λ (x : Outcome). x .state) e; listed = rw (u .1) (rw e at p) }, (u .2, u .3))
+-- ---- Runs
+
+-- What `uncompared` gives
+abbrev Uncompared : State → ℕ → State → ℕ → Bool → Bool → Type 0
+Uncompared state place state′ place′ compared differed =
+    (state′ ≡ state) × (place′ ≡ place) × (compared ≡ false) × (differed ≡ false)
+
+module _ {s : State} {m : Memory} {d : List ℕ} {at : ℕ} {r : Ran} {m′ : Memory} {d′ : List ℕ} {place : ℕ} where
+  -- A run of the SP alone, into whatever output
+  pub sp-run-performed : (budget : ℕ) {out out′ : List ℕ} {state′ : State} {place′ : ℕ} {compared differed : Bool}
+      → RunGives s budget 0 m out r m′ out′ → Put d at (spLine r) d′ place
+      → Uncompared (r .outcome .state) place state′ place′ compared differed
+      → PerformGives (SpRun budget) (world s m) d at (world state′ m′) d′ place′ compared differed
+  unfolding after line
+  sp-run-performed budget {out} g put u =
+      let same = output-unused s budget m out room in
+      let given : r ≡ replayRun (world s m) budget 0 = g .given ∙ same .0 in
+      record {
+        leaves = λ i. world ((u .0 ∙ ap (λ (x : Ran). x .outcome .state) given) i) ((g .bytes ∙ same .1) i);
+        listed = rw (u .1) (subst (λ (x : Ran). Put d at (spLine x) d′ place) given put);
+        compared = u .2;
+        differed = u .3;
+      }
+
+  pub dp-run-performed : (budget : ℕ) {state′ : State} {place′ : ℕ} {compared differed : Bool}
+      → r ≡ replayRun (world s m) 0 budget → m′ ≡ afterRun (world s m) 0 budget .memory → Put d at (dpLine r) d′ place
+      → Uncompared (r .outcome .state) place state′ place′ compared differed
+      → PerformGives (DpRun budget) (world s m) d at (world state′ m′) d′ place′ compared differed
+  unfolding after line
+  dp-run-performed budget given bytes put u =
+      record {
+        leaves = λ i. world ((u .0 ∙ ap (λ (x : Ran). x .outcome .state) given) i) (bytes i);
+        listed = rw (u .1) (subst (λ (x : Ran). Put d at (dpLine x) d′ place) given put);
+        compared = u .2;
+        differed = u .3;
+      }
+
+  -- Of both engines, with both lines
+  pub run-performed : (a b : ℕ) {d₁ : List ℕ} {p : ℕ} {state′ : State} {place′ : ℕ} {compared differed : Bool}
+      → r ≡ replayRun (world s m) a b → m′ ≡ afterRun (world s m) a b .memory
+      → Put d at (spLine r) d₁ p → Put d₁ p (dpLine r) d′ place
+      → Uncompared (r .outcome .state) place state′ place′ compared differed
+      → PerformGives (Run a b) (world s m) d at (world state′ m′) d′ place′ compared differed
+  unfolding after line
+  run-performed a b given bytes first second u =
+      record {
+        leaves = λ i. world ((u .0 ∙ ap (λ (x : Ran). x .outcome .state) given) i) (bytes i);
+        listed = rw (u .1) (subst (λ (x : Ran). Put d at (spLine x ++ dpLine x) d′ place) given (first then second));
+        compared = u .2;
+        differed = u .3;
+      }
 
 -- ---- The arms: the item is known to be the record of its arm, whose effect, line and comparison compute
 
@@ -88,6 +137,11 @@ module _ {item item′ : Record} {w : World} {d : List ℕ} {at : ℕ} (known : 
       → after item′ w ≡ world (o .state) m → line item′ w ≡ text → (compared ≡ compares item′) × (differed ≡ differs item′ w)
       → PerformGives item w d at (world next m′) d′ place compared differed
   listed-call g bytes leaves told seen = performed (rw (g .given, bytes) (sym leaves)) (rw told (g .listed)) seen
+
+  -- A run, whose own promise is that of its record
+  pub run-arm : {w′ : World} {d′ : List ℕ} {place : ℕ} {compared differed : Bool}
+      → PerformGives item′ w d at w′ d′ place compared differed → PerformGives item w d at w′ d′ place compared differed
+  run-arm {w′} {d′} {place} {compared} {differed} g = subst (λ (x : Record). PerformGives x w d at w′ d′ place compared differed) (sym known) g
 
   -- No call: every register is left alone
   pub state-kept : {next : State} {m m′ : Memory} {d′ : List ℕ} {place : ℕ} {compared differed : Bool}

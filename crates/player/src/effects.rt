@@ -6,11 +6,11 @@ use access::read_register;
 use access::sp_break;
 use access::tick;
 use access::write_register;
-use engines::dp_run;
-use engines::sp_run;
+use engines::run;
 use lines::put_found;
 use lines::put_run;
 use machine::Outcome;
+use machine::Ran;
 use machine::State;
 use recording::Record;
 ghost use mathlib.Core.Path.{_≡_};
@@ -20,11 +20,11 @@ ghost use lib.Dec.{eqb};
 ghost use lib.ListN.{length};
 ghost use Rattle.words.specs.Memory.{memory};
 ghost use Rattle.machine.specs.Calls.{readRegister};
-ghost use Rattle.machine.specs.Runs.{spRun, spRunMemory, dpRun};
 ghost use Rattle.laws.specs.World.{world};
-ghost use Rattle.listing.specs.Text.{letterS, letterD, letterR, letterL, runLine, foundLine};
+ghost use Rattle.recording.specs.declared.Record.the-variants.{SpRun, DpRun, Run};
+ghost use Rattle.listing.specs.Text.{letterR, letterL, foundLine};
 ghost use Rattle.listing.specs.Put.{Put};
-ghost use Rattle.playback.specs.Effects.{room, loadAt};
+ghost use Rattle.playback.specs.Effects.{replayRun, afterRun, loadAt};
 ghost use Rattle.playback.specs.Promised.{ShowGives, PerformGives};
 
 // The state after a record, and the place after its line; whether it compared what it found, and whether that differed.
@@ -75,7 +75,7 @@ fn read_listed(s: State, a: u32, expected: u32, out: &mut [u8], at: usize) -> Pr
     }
 }
 
-// An SP run, and its count listed.
+// A run of the SP alone, and its count listed. Without budget for the DP nothing is put out, so that eight bytes of output do for all.
 fn sp_run_listed(
     s: State,
     budget: u32,
@@ -85,38 +85,77 @@ fn sp_run_listed(
     out: &mut [u8],
     at: usize,
 ) -> Progress
-    ensures { λ r. ⌜ ShowGives (spRun s budget (memory (now (rdram .entry)) (now (dmem .entry)) (now (imem .entry))))
-        (runLine letterS (spRun s budget (memory (now (rdram .entry)) (now (dmem .entry)) (now (imem .entry))) .answer .count))
-        (now (out .entry)) at (r .state) (now (out .exit)) (r .place) ⌝ }
-    ensures { λ r. ⌜ memory (now (rdram .exit)) (now (dmem .exit)) (now (imem .exit))
-        ≡ spRunMemory s budget (memory (now (rdram .entry)) (now (dmem .entry)) (now (imem .entry))) ⌝ }
-    ensures { λ r. ⌜ (r .compared ≡ false) × (r .differed ≡ false) ⌝ }
+    ensures { λ r. ⌜ PerformGives (SpRun budget) (world s (memory (now (rdram .entry)) (now (dmem .entry)) (now (imem .entry)))) (now (out .entry)) at
+        (world (r .state) (memory (now (rdram .exit)) (now (dmem .exit)) (now (imem .exit)))) (now (out .exit)) (r .place)
+        (r .compared) (r .differed) ⌝ }
 {
-    let done = sp_run(s, budget, rdram, dmem, imem);
+    let mut none = [0u8; 8];
+    let ran = run(s, budget, 0, rdram, dmem, imem, &mut none);
+    let done = ran.outcome;
     let answer = done.answer;
     let place = put_run(out, at, b'S', answer.count);
     let state = done.state;
     uncompared(state, place)
 }
 
-// A DP run into 2,048 bytes of its own, and its count listed.
+// A run into 2,048 bytes of its own.
+fn replay_run(
+    s: State,
+    spbudget: u32,
+    dpbudget: u32,
+    rdram: &mut [u8],
+    dmem: &mut [u8],
+    imem: &mut [u8],
+) -> Ran
+    ensures { λ r. ⌜ r ≡ replayRun (world s (memory (now (rdram .entry)) (now (dmem .entry)) (now (imem .entry)))) spbudget dpbudget ⌝ }
+    ensures { λ r. ⌜ memory (now (rdram .exit)) (now (dmem .exit)) (now (imem .exit))
+        ≡ afterRun (world s (memory (now (rdram .entry)) (now (dmem .entry)) (now (imem .entry)))) spbudget dpbudget .memory ⌝ }
+{
+    let mut words = [0u8; 2048];
+    run(s, spbudget, dpbudget, rdram, dmem, imem, &mut words)
+}
+
+// A run of the DP alone, and its count listed.
 fn dp_run_listed(
     s: State,
     budget: u32,
-    rdram: &[u8],
-    dmem: &[u8],
+    rdram: &mut [u8],
+    dmem: &mut [u8],
+    imem: &mut [u8],
     out: &mut [u8],
     at: usize,
 ) -> Progress
-    ensures { λ r. ⌜ ShowGives (dpRun s budget (now (rdram .entry)) (now (dmem .entry)) room)
-        (runLine letterD (dpRun s budget (now (rdram .entry)) (now (dmem .entry)) room .answer .count))
-        (now (out .entry)) at (r .state) (now (out .exit)) (r .place) ⌝ }
-    ensures { λ r. ⌜ (r .compared ≡ false) × (r .differed ≡ false) ⌝ }
+    ensures { λ r. ⌜ PerformGives (DpRun budget) (world s (memory (now (rdram .entry)) (now (dmem .entry)) (now (imem .entry)))) (now (out .entry)) at
+        (world (r .state) (memory (now (rdram .exit)) (now (dmem .exit)) (now (imem .exit)))) (now (out .exit)) (r .place)
+        (r .compared) (r .differed) ⌝ }
 {
-    let mut words = [0u8; 2048];
-    let done = dp_run(s, budget, rdram, dmem, &mut words);
+    let ran = replay_run(s, 0, budget, rdram, dmem, imem);
+    let place = put_run(out, at, b'D', ran.words);
+    let done = ran.outcome;
+    let state = done.state;
+    uncompared(state, place)
+}
+
+// A run of both engines, and their counts listed: first the SP's, then the DP's.
+fn run_listed(
+    s: State,
+    spbudget: u32,
+    dpbudget: u32,
+    rdram: &mut [u8],
+    dmem: &mut [u8],
+    imem: &mut [u8],
+    out: &mut [u8],
+    at: usize,
+) -> Progress
+    ensures { λ r. ⌜ PerformGives (Run spbudget dpbudget) (world s (memory (now (rdram .entry)) (now (dmem .entry)) (now (imem .entry))))
+        (now (out .entry)) at (world (r .state) (memory (now (rdram .exit)) (now (dmem .exit)) (now (imem .exit)))) (now (out .exit)) (r .place)
+        (r .compared) (r .differed) ⌝ }
+{
+    let ran = replay_run(s, spbudget, dpbudget, rdram, dmem, imem);
+    let done = ran.outcome;
     let answer = done.answer;
-    let place = put_run(out, at, b'D', answer.count);
+    let after = put_run(out, at, b'S', answer.count);
+    let place = put_run(out, after, b'D', ran.words);
     let state = done.state;
     uncompared(state, place)
 }
@@ -168,7 +207,7 @@ pub(crate) fn perform(
         Record::Write(a, v) => unlisted(write_register(s, a, v), at),
         Record::Read(a, v) => read_listed(s, a, v, out, at),
         Record::SpRun(budget) => sp_run_listed(s, budget, rdram, dmem, imem, out, at),
-        Record::DpRun(budget) => dp_run_listed(s, budget, rdram, dmem, out, at),
+        Record::DpRun(budget) => dp_run_listed(s, budget, rdram, dmem, imem, out, at),
         Record::Tick(n) => unlisted(tick(s, n), at),
         Record::Break => unlisted(sp_break(s), at),
         Record::Acknowledge => unlisted(acknowledge(s), at),
@@ -177,5 +216,15 @@ pub(crate) fn perform(
             uncompared(s, at)
         }
         Record::Check(a, word) => check_listed(s, a, word, rdram, dmem, imem, out, at),
+        Record::Run(spbudget, dpbudget) => run_listed(
+            s,
+            spbudget,
+            dpbudget,
+            rdram,
+            dmem,
+            imem,
+            out,
+            at,
+        ),
     }
 }

@@ -3,7 +3,7 @@ use recording::Record;
 ghost use mathlib.Core.Path.{_≡_};
 ghost use Rattle.recording.specs.Kinds.{byte, joined, isKind, size, decoded, recordOf};
 
-const BODIES: [usize; 10] = [0, 8, 8, 4, 4, 4, 0, 0, 12, 12];
+const BODIES: [usize; 11] = [0, 8, 8, 4, 4, 4, 0, 0, 12, 12, 8];
 
 // A byte, 0 past the end.
 pub(crate) fn byte(s: &[u8], i: usize) -> u8
@@ -22,7 +22,7 @@ fn joined(a: u8, b: u8, c: u8, d: u8) -> u32
 pub fn is_kind(kind: u8) -> bool
     ensures { λ r. ⌜ r ≡ isKind kind ⌝ }
 {
-    (1 <= kind) & (kind <= 9)
+    (1 <= kind) & (kind <= 10)
 }
 
 // How many bytes a record takes: its kind and its body.
@@ -30,7 +30,7 @@ pub fn size(kind: u8) -> usize
     ensures { λ r. ⌜ r ≡ size kind ⌝ }
 {
     let k = kind as usize;
-    if k < 10 { 1 + BODIES[k] } else { 1 }
+    if k < 11 { 1 + BODIES[k] } else { 1 }
 }
 
 // The record of a kind, where a is the first four bytes of its body, v the four after them, and w the eight after the first four.
@@ -47,6 +47,7 @@ pub fn decoded(kind: u8, a: u32, v: u32, w: u64) -> Record
         7 => Record::Acknowledge,
         8 => Record::Store(a, w),
         9 => Record::Check(a, w),
+        10 => Record::Run(a, v),
         _ => Record::None,
     }
 }

@@ -39,6 +39,7 @@ pub fn address_number(item: Record) -> u32
         Record::Acknowledge => 0,
         Record::Store(a, _) => memory_number(a),
         Record::Check(a, _) => memory_number(a),
+        Record::Run(_, _) => 0,
     }
 }
 

@@ -17,11 +17,13 @@ use Rattle.recording.specs.Reader.{addressNumber, recordNumber, refused,
 
 -- ---- The numbers of some bytes, by computation
 
--- No byte; kinds 0 and 10; a write that is cut in its address, which begins no register's; writes to 0x04040020, 0x04040021 and 0x00000001; a
--- store at 0x03F00000, and one at an address that is no multiple of 4; reads at 0x041FFFFC, in the last mirror, at 0x041FFFFE and at 0x04200000
+-- No byte; kinds 0 and 11; a merged run without its budgets; a write that is cut in its address, which begins no register's; writes to 0x04040020,
+-- 0x04040021 and 0x00000001; a store at 0x03F00000, and one at an address that is no multiple of 4; reads at 0x041FFFFC, in the last mirror, at
+-- 0x041FFFFE and at 0x04200000
 pub numbers-of-bytes : (recordNumber [] ≡ 8)
     × (recordNumber (0 ∷ []) ≡ 7)
-    × (recordNumber (10 ∷ []) ≡ 7)
+    × (recordNumber (11 ∷ []) ≡ 7)
+    × (recordNumber (10 ∷ []) ≡ 8)
     × (recordNumber (1 ∷ 0xFF ∷ []) ≡ 8)
     × (recordNumber (1 ∷ 0x04 ∷ 0x04 ∷ 0x00 ∷ 0x20 ∷ 0 ∷ 0 ∷ 0 ∷ 0 ∷ []) ≡ 5)
     × (recordNumber (1 ∷ 0x04 ∷ 0x04 ∷ 0x00 ∷ 0x21 ∷ 0 ∷ 0 ∷ 0 ∷ 0 ∷ []) ≡ 10)
@@ -32,7 +34,7 @@ pub numbers-of-bytes : (recordNumber [] ≡ 8)
     × (recordNumber (2 ∷ 0x04 ∷ 0x1F ∷ 0xFF ∷ 0xFE ∷ 0 ∷ 0 ∷ 0 ∷ 0 ∷ []) ≡ 10)
     × (recordNumber (2 ∷ 0x04 ∷ 0x20 ∷ 0x00 ∷ 0x00 ∷ 0 ∷ 0 ∷ 0 ∷ 0 ∷ []) ≡ 5)
 unfolding recordNumber recordOf decoded registerAt
-numbers-of-bytes = (refl, refl, refl, refl, refl, refl, refl, refl, refl, refl, refl, refl)
+numbers-of-bytes = (refl, refl, refl, refl, refl, refl, refl, refl, refl, refl, refl, refl, refl)
 
 -- ---- What is known of an accepted record
 
@@ -48,7 +50,8 @@ body-at-most (suc (suc (suc (suc (suc (suc zero)))))) = omega arith
 body-at-most (suc (suc (suc (suc (suc (suc (suc zero))))))) = omega arith
 body-at-most (suc (suc (suc (suc (suc (suc (suc (suc zero)))))))) = omega arith
 body-at-most (suc (suc (suc (suc (suc (suc (suc (suc (suc zero))))))))) = omega arith
-body-at-most (suc (suc (suc (suc (suc (suc (suc (suc (suc (suc kind)))))))))) = omega arith
+body-at-most (suc (suc (suc (suc (suc (suc (suc (suc (suc (suc zero)))))))))) = omega arith
+body-at-most (suc (suc (suc (suc (suc (suc (suc (suc (suc (suc (suc kind))))))))))) = omega arith
 
 -- ---- What the number 0 says of the bytes
 

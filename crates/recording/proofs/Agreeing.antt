@@ -23,7 +23,8 @@ same-decoded (suc (suc (suc (suc (suc (suc zero)))))) a v w a′ v′ w′ ea ev
 same-decoded (suc (suc (suc (suc (suc (suc (suc zero))))))) a v w a′ v′ w′ ea ev ew = refl
 same-decoded (suc (suc (suc (suc (suc (suc (suc (suc zero)))))))) a v w a′ v′ w′ ea ev ew = rw (ea (omega arith), ew (omega arith))
 same-decoded (suc (suc (suc (suc (suc (suc (suc (suc (suc zero))))))))) a v w a′ v′ w′ ea ev ew = rw (ea (omega arith), ew (omega arith))
-same-decoded (suc (suc (suc (suc (suc (suc (suc (suc (suc (suc k)))))))))) a v w a′ v′ w′ ea ev ew = refl
+same-decoded (suc (suc (suc (suc (suc (suc (suc (suc (suc (suc zero)))))))))) a v w a′ v′ w′ ea ev ew = rw (ea (omega arith), ev (omega arith))
+same-decoded (suc (suc (suc (suc (suc (suc (suc (suc (suc (suc (suc k))))))))))) a v w a′ v′ w′ ea ev ew = refl
 
 module _ (u v : List ℕ) (e : recordNumber u ≡ 0) (there : size (kindOf u) ≤ length v)
     (same : (i : ℕ) → i < size (kindOf u) → byte v i ≡ byte u i) where

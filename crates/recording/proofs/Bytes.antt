@@ -10,7 +10,7 @@ use lib.Seq.{drop-cons}
 use borrow.Author.Tests.{lt-ltb, le-leb}
 use Rattle.words.specs.Memory.{lowByte, wordBytes}
 use Rattle.recording.specs.declared.Record.{Record}
-use Rattle.recording.specs.declared.Record.the-variants.{None, Write, Read, SpRun, DpRun, Tick, Break, Acknowledge, Store, Check}
+use Rattle.recording.specs.declared.Record.the-variants.{None, Write, Read, SpRun, DpRun, Tick, Break, Acknowledge, Store, Check, Run}
 use Rattle.recording.specs.Kinds.{Bytes, byte, joined, four, isKind, size, decoded, kindOf, recordOf}
 use Rattle.recording.specs.Fields.{fieldsOf, Fits}
 use Rattle.recording.specs.Reader.{addressNumber, recordNumber}
@@ -99,6 +99,7 @@ bytes-record Break h = refl
 bytes-record Acknowledge h = refl
 bytes-record (Store a w) h = rw (join-four a (h .0), word-halves w, join-eight w (h .1))
 bytes-record (Check a w) h = rw (join-four a (h .0), word-halves w, join-eight w (h .1))
+bytes-record (Run a b) h = rw (join-four a (h .0), join-four b (h .1))
 
 -- They begin with the kind, and are as many as the kind fixes
 pub bytes-kind : (r : Record) → isKind (kindNumber r) ≡ true → kindOf (recordBytes r) ≡ kindNumber r
@@ -112,6 +113,7 @@ bytes-kind Break e = refl
 bytes-kind Acknowledge e = refl
 bytes-kind (Store a w) e = refl
 bytes-kind (Check a w) e = refl
+bytes-kind (Run a b) e = refl
 
 pub bytes-length : (r : Record) → isKind (kindNumber r) ≡ true → length (recordBytes r) ≡ size (kindNumber r)
 unfolding wordBytes
@@ -125,6 +127,7 @@ bytes-length Break e = refl
 bytes-length Acknowledge e = refl
 bytes-length (Store a w) e = refl
 bytes-length (Check a w) e = refl
+bytes-length (Run a b) e = refl
 
 pub bytes-number : (r : Record) → isKind (kindNumber r) ≡ true → addressNumber r ≡ 0 → Fits r → recordNumber (recordBytes r) ≡ 0
 unfolding recordNumber
@@ -144,7 +147,7 @@ pub decoded-bytes : (k a v l : ℕ) → isKind k ≡ true → l < 0x100000000
 unfolding decoded
 decoded-bytes k a v l e h =
     each-kind (λ (n : ℕ). recordBytes (decoded n a v (v * 0x100000000 + l)) ≡ take (size n) (longestBytes n a v l))
-    refl refl refl refl refl refl refl (rw (halves-bytes v l h)) (rw (halves-bytes v l h)) k e
+    refl refl refl refl refl refl refl (rw (halves-bytes v l h)) (rw (halves-bytes v l h)) refl k e
 
 -- The m bytes from a place on
 abbrev bytesFrom : ℕ → List ℕ → ℕ → List ℕ

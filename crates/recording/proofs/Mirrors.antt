@@ -14,10 +14,10 @@ use Rattle.machine.specs.Address.{inBlock, firstCopy}
 use Rattle.machine.specs.Refusals.{check, registerNumber, ifRefused}
 use Rattle.machine.proofs.Address.{mirrored}
 use Rattle.recording.specs.declared.Record.{Record}
-use Rattle.recording.specs.declared.Record.the-variants.{None, Write, Read, SpRun, DpRun, Tick, Break, Acknowledge, Store, Check}
+use Rattle.recording.specs.declared.Record.the-variants.{None, Write, Read, SpRun, DpRun, Tick, Break, Acknowledge, Store, Check, Run}
 use Rattle.recording.specs.declared.Fields.{Fields}
-use Rattle.recording.specs.Kinds.{Bytes, four, eight, isKind, accesses, runsOrTicks, size, kindOf, decoded, recordOf}
-use Rattle.recording.specs.Fields.{low, recordBy, Fits}
+use Rattle.recording.specs.Kinds.{Bytes, four, eight, isKind, accesses, runsOrTicks, runsBoth, size, kindOf, decoded, recordOf}
+use Rattle.recording.specs.Fields.{low, high, recordBy, Fits}
 use Rattle.recording.specs.Reader.{addressNumber, recordNumber}
 use Rattle.recording.specs.Writer.{recordBytes, hasRoom, before, writeNumber, answered, writeAnswer}
 use Rattle.recording.specs.Split.{Split, stops, precedes, splitFrom, split}
@@ -41,6 +41,7 @@ copy-kind Break = refl
 copy-kind Acknowledge = refl
 copy-kind (Store a w) = refl
 copy-kind (Check a w) = refl
+copy-kind (Run a b) = refl
 
 pub copy-number : (r : Record) → addressNumber (atFirstCopy r) ≡ addressNumber r
 copy-number None = refl
@@ -53,6 +54,7 @@ copy-number Break = refl
 copy-number Acknowledge = refl
 copy-number (Store a w) = refl
 copy-number (Check a w) = refl
+copy-number (Run a b) = refl
 
 address-fits : (a : ℕ) → a < 0x100000000 → firstCopy a < 0x100000000
 address-fits a h = go (inBlock 0x04100000 0x041FFFFF a)
@@ -72,6 +74,7 @@ copy-fits Break h = h
 copy-fits Acknowledge h = h
 copy-fits (Store a w) h = h
 copy-fits (Check a w) h = h
+copy-fits (Run a b) h = h
 
 -- An accepted record and bytes t after it: with the record at the first copy it is accepted too, and as many bytes follow
 module _ (u : List ℕ) (b : Bytes u) (z : recordNumber u ≡ 0) (t : List ℕ) where
@@ -193,24 +196,25 @@ read-at-first-copy s b =
 
 -- ---- A record that is to be written
 
-copy-decoded : (k a n v w : ℕ) → decoded k (cond (runsOrTicks k) n (cond (accesses k) (firstCopy a) a)) v w
-    ≡ atFirstCopy (decoded k (cond (runsOrTicks k) n a) v w)
+copy-decoded : (k a n m v w : ℕ) → decoded k (cond (runsOrTicks k) n (cond (runsBoth k) m (cond (accesses k) (firstCopy a) a))) v w
+    ≡ atFirstCopy (decoded k (cond (runsOrTicks k) n (cond (runsBoth k) m a)) v w)
 unfolding decoded
-copy-decoded zero a n v w = refl
-copy-decoded (suc zero) a n v w = refl
-copy-decoded (suc (suc zero)) a n v w = refl
-copy-decoded (suc (suc (suc zero))) a n v w = refl
-copy-decoded (suc (suc (suc (suc zero)))) a n v w = refl
-copy-decoded (suc (suc (suc (suc (suc zero))))) a n v w = refl
-copy-decoded (suc (suc (suc (suc (suc (suc zero)))))) a n v w = refl
-copy-decoded (suc (suc (suc (suc (suc (suc (suc zero))))))) a n v w = refl
-copy-decoded (suc (suc (suc (suc (suc (suc (suc (suc zero)))))))) a n v w = refl
-copy-decoded (suc (suc (suc (suc (suc (suc (suc (suc (suc zero))))))))) a n v w = refl
-copy-decoded (suc (suc (suc (suc (suc (suc (suc (suc (suc (suc k)))))))))) a n v w = refl
+copy-decoded zero a n m v w = refl
+copy-decoded (suc zero) a n m v w = refl
+copy-decoded (suc (suc zero)) a n m v w = refl
+copy-decoded (suc (suc (suc zero))) a n m v w = refl
+copy-decoded (suc (suc (suc (suc zero)))) a n m v w = refl
+copy-decoded (suc (suc (suc (suc (suc zero))))) a n m v w = refl
+copy-decoded (suc (suc (suc (suc (suc (suc zero)))))) a n m v w = refl
+copy-decoded (suc (suc (suc (suc (suc (suc (suc zero))))))) a n m v w = refl
+copy-decoded (suc (suc (suc (suc (suc (suc (suc (suc zero)))))))) a n m v w = refl
+copy-decoded (suc (suc (suc (suc (suc (suc (suc (suc (suc zero))))))))) a n m v w = refl
+copy-decoded (suc (suc (suc (suc (suc (suc (suc (suc (suc (suc zero)))))))))) a n m v w = refl
+copy-decoded (suc (suc (suc (suc (suc (suc (suc (suc (suc (suc (suc k))))))))))) a n m v w = refl
 
 copy-item : (f : Fields) → recordBy (fieldsAtFirstCopy f) ≡ atFirstCopy (recordBy f)
 unfolding recordBy
-copy-item f = copy-decoded (f .kind) (f .address) (low f) (low f) (f .value)
+copy-item f = copy-decoded (f .kind) (f .address) (low f) (high f) (low f) (f .value)
 
 copy-address : (f : Fields) → addressNumber (recordBy (fieldsAtFirstCopy f)) ≡ addressNumber (recordBy f)
 copy-address f = ap addressNumber (copy-item f) ∙ copy-number (recordBy f)

@@ -1,41 +1,42 @@
 -- Records by their kind and fields: the record has them, and nothing else plays a part.
-use Prim.Native.Nat.{ℕ, zero, suc, _%_, _<_, _≤_}
-use mathlib.Core.Path.{_≡_, refl, ap, _∙_}
+use Prim.Native.Nat.{ℕ, zero, suc, _+_, _*_, _/_, _%_, _<_, _≤_}
+use mathlib.Core.Path.{_≡_, refl, sym, ap, _∙_}
 use mathlib.Core.Bool.{Bool, true, false, cond}
 use native.Mathlib.Omega.{arith}
-use native.Mathlib.Nat.{mod-eq-of-lt, mod-mod}
+use native.Mathlib.Nat.{mod-eq-of-lt, mod-mod, div-add-mod'}
 use lib.Dec.{leb}
 use borrow.Author.Tests.{leb-true}
 use Rattle.words.proofs.Tests.{contradiction, and-true}
 use Rattle.recording.specs.declared.Record.{Record}
-use Rattle.recording.specs.declared.Record.the-variants.{None, Write, Read, SpRun, DpRun, Tick, Break, Acknowledge, Store, Check}
+use Rattle.recording.specs.declared.Record.the-variants.{None, Write, Read, SpRun, DpRun, Tick, Break, Acknowledge, Store, Check, Run}
 use Rattle.recording.specs.declared.Fields.{Fields}
-use Rattle.recording.specs.Kinds.{isKind, runsOrTicks, decoded}
-use Rattle.recording.specs.Fields.{ofKind, fieldsOf, low, firstField, recordBy, RecordsBy, KindsNamed, hasAddress, hasValue, hasWord, SameFields, FieldsKept, Fits, FieldsFit}
+use Rattle.recording.specs.Kinds.{isKind, runsOrTicks, runsBoth, decoded}
+use Rattle.recording.specs.Fields.{ofKind, fieldsOf, low, high, firstField, recordBy, RecordsBy, KindsNamed, hasAddress, hasValue, hasWord, SameFields, FieldsKept, Fits, FieldsFit}
 
--- ---- The nine kinds
+-- ---- The ten kinds
 
 -- A test that is false
 pub never : {P : Type 0} → _≡_ {A = Bool} false true → P
 never e = contradiction e refl
 
-at-most-nine : (k : ℕ) → isKind k ≡ true → k ≤ 9
-at-most-nine k e = leb-true k 9 (and-true (leb 1 k) (leb k 9) e .1)
+at-most-ten : (k : ℕ) → isKind k ≡ true → k ≤ 10
+at-most-ten k e = leb-true k 10 (and-true (leb 1 k) (leb k 10) e .1)
 
 -- What holds of each of them holds of every known kind
-pub each-kind : (P : ℕ → Type 0) → P 1 → P 2 → P 3 → P 4 → P 5 → P 6 → P 7 → P 8 → P 9 → (k : ℕ) → isKind k ≡ true → P k
-each-kind P p₁ p₂ p₃ p₄ p₅ p₆ p₇ p₈ p₉ zero e = never e
-each-kind P p₁ p₂ p₃ p₄ p₅ p₆ p₇ p₈ p₉ (suc zero) e = p₁
-each-kind P p₁ p₂ p₃ p₄ p₅ p₆ p₇ p₈ p₉ (suc (suc zero)) e = p₂
-each-kind P p₁ p₂ p₃ p₄ p₅ p₆ p₇ p₈ p₉ (suc (suc (suc zero))) e = p₃
-each-kind P p₁ p₂ p₃ p₄ p₅ p₆ p₇ p₈ p₉ (suc (suc (suc (suc zero)))) e = p₄
-each-kind P p₁ p₂ p₃ p₄ p₅ p₆ p₇ p₈ p₉ (suc (suc (suc (suc (suc zero))))) e = p₅
-each-kind P p₁ p₂ p₃ p₄ p₅ p₆ p₇ p₈ p₉ (suc (suc (suc (suc (suc (suc zero)))))) e = p₆
-each-kind P p₁ p₂ p₃ p₄ p₅ p₆ p₇ p₈ p₉ (suc (suc (suc (suc (suc (suc (suc zero))))))) e = p₇
-each-kind P p₁ p₂ p₃ p₄ p₅ p₆ p₇ p₈ p₉ (suc (suc (suc (suc (suc (suc (suc (suc zero)))))))) e = p₈
-each-kind P p₁ p₂ p₃ p₄ p₅ p₆ p₇ p₈ p₉ (suc (suc (suc (suc (suc (suc (suc (suc (suc zero))))))))) e = p₉
-each-kind P p₁ p₂ p₃ p₄ p₅ p₆ p₇ p₈ p₉ (suc (suc (suc (suc (suc (suc (suc (suc (suc (suc k)))))))))) e =
-    absurd (omega (arith, at-most-nine (suc (suc (suc (suc (suc (suc (suc (suc (suc (suc k)))))))))) e))
+pub each-kind : (P : ℕ → Type 0) → P 1 → P 2 → P 3 → P 4 → P 5 → P 6 → P 7 → P 8 → P 9 → P 10 → (k : ℕ) → isKind k ≡ true → P k
+each-kind P p₁ p₂ p₃ p₄ p₅ p₆ p₇ p₈ p₉ p₁₀ zero e = never e
+each-kind P p₁ p₂ p₃ p₄ p₅ p₆ p₇ p₈ p₉ p₁₀ (suc zero) e = p₁
+each-kind P p₁ p₂ p₃ p₄ p₅ p₆ p₇ p₈ p₉ p₁₀ (suc (suc zero)) e = p₂
+each-kind P p₁ p₂ p₃ p₄ p₅ p₆ p₇ p₈ p₉ p₁₀ (suc (suc (suc zero))) e = p₃
+each-kind P p₁ p₂ p₃ p₄ p₅ p₆ p₇ p₈ p₉ p₁₀ (suc (suc (suc (suc zero)))) e = p₄
+each-kind P p₁ p₂ p₃ p₄ p₅ p₆ p₇ p₈ p₉ p₁₀ (suc (suc (suc (suc (suc zero))))) e = p₅
+each-kind P p₁ p₂ p₃ p₄ p₅ p₆ p₇ p₈ p₉ p₁₀ (suc (suc (suc (suc (suc (suc zero)))))) e = p₆
+each-kind P p₁ p₂ p₃ p₄ p₅ p₆ p₇ p₈ p₉ p₁₀ (suc (suc (suc (suc (suc (suc (suc zero))))))) e = p₇
+each-kind P p₁ p₂ p₃ p₄ p₅ p₆ p₇ p₈ p₉ p₁₀ (suc (suc (suc (suc (suc (suc (suc (suc zero)))))))) e = p₈
+each-kind P p₁ p₂ p₃ p₄ p₅ p₆ p₇ p₈ p₉ p₁₀ (suc (suc (suc (suc (suc (suc (suc (suc (suc zero))))))))) e = p₉
+each-kind P p₁ p₂ p₃ p₄ p₅ p₆ p₇ p₈ p₉ p₁₀ (suc (suc (suc (suc (suc (suc (suc (suc (suc (suc zero)))))))))) e = p₁₀
+each-kind P p₁ p₂ p₃ p₄ p₅ p₆ p₇ p₈ p₉ p₁₀ (suc (suc (suc (suc (suc (suc (suc (suc (suc (suc (suc k))))))))))) e =
+    absurd (omega (arith, at-most-ten (suc (suc (suc (suc (suc (suc (suc (suc (suc (suc (suc k))))))))))) e))
 
 -- ---- By the kind
 
@@ -61,7 +62,8 @@ by-fields (suc (suc (suc (suc (suc (suc zero)))))) a w a′ w′ ea ev ew = refl
 by-fields (suc (suc (suc (suc (suc (suc (suc zero))))))) a w a′ w′ ea ev ew = refl
 by-fields (suc (suc (suc (suc (suc (suc (suc (suc zero)))))))) a w a′ w′ ea ev ew = rw (ea refl, ew refl)
 by-fields (suc (suc (suc (suc (suc (suc (suc (suc (suc zero))))))))) a w a′ w′ ea ev ew = rw (ea refl, ew refl)
-by-fields (suc (suc (suc (suc (suc (suc (suc (suc (suc (suc k)))))))))) a w a′ w′ ea ev ew = refl
+by-fields (suc (suc (suc (suc (suc (suc (suc (suc (suc (suc zero)))))))))) a w a′ w′ ea ev ew = rw (ew refl)
+by-fields (suc (suc (suc (suc (suc (suc (suc (suc (suc (suc (suc k))))))))))) a w a′ w′ ea ev ew = refl
 
 same-record : (f g : Fields) → SameFields f g → recordBy f ≡ recordBy g
 same-record f g s =
@@ -83,6 +85,7 @@ has-fields k a w =
     (record { kind = refl; address = never; value = never; word = never })
     (record { kind = refl; address = λ _. refl; value = λ _. refl; word = λ _. refl })
     (record { kind = refl; address = λ _. refl; value = λ _. refl; word = λ _. refl })
+    (record { kind = refl; address = never; value = never; word = λ _. sym (div-add-mod' w 0x100000000) })
     k
 
 pub fields-kept : (f : Fields) → FieldsKept f
@@ -102,6 +105,10 @@ own-fields Break h = refl
 own-fields Acknowledge h = refl
 own-fields (Store a w) h = refl
 own-fields (Check a w) h = refl
+own-fields (Run a b) h =
+    let e₁ : (a * 0x100000000 + b) / 0x100000000 ≡ a = omega (arith, h .1) in
+    let e₂ : (a * 0x100000000 + b) % 0x100000000 ≡ b = omega (arith, h .1) in
+    rw (e₁, e₂)
 
 -- ---- Widths
 
@@ -117,7 +124,8 @@ decoded-fits (suc (suc (suc (suc (suc (suc zero)))))) a v w ha hv hw = tt
 decoded-fits (suc (suc (suc (suc (suc (suc (suc zero))))))) a v w ha hv hw = tt
 decoded-fits (suc (suc (suc (suc (suc (suc (suc (suc zero)))))))) a v w ha hv hw = (ha, hw)
 decoded-fits (suc (suc (suc (suc (suc (suc (suc (suc (suc zero))))))))) a v w ha hv hw = (ha, hw)
-decoded-fits (suc (suc (suc (suc (suc (suc (suc (suc (suc (suc k)))))))))) a v w ha hv hw = tt
+decoded-fits (suc (suc (suc (suc (suc (suc (suc (suc (suc (suc zero)))))))))) a v w ha hv hw = (ha, hv)
+decoded-fits (suc (suc (suc (suc (suc (suc (suc (suc (suc (suc (suc k))))))))))) a v w ha hv hw = tt
 
 -- The record of some fields
 either-fits : (b : Bool) (x y : ℕ) → x < 0x100000000 → y < 0x100000000 → cond b x y < 0x100000000
@@ -128,7 +136,8 @@ pub record-fits : (f : Fields) → FieldsFit f → Fits (recordBy f)
 unfolding recordBy
 record-fits f h =
     decoded-fits (f .kind) (firstField f) (low f) (f .value)
-    (either-fits (runsOrTicks (f .kind)) (low f) (f .address) (omega arith) (h .address))
+    (either-fits (runsOrTicks (f .kind)) (low f) (cond (runsBoth (f .kind)) (high f) (f .address)) (omega arith)
+    (either-fits (runsBoth (f .kind)) (high f) (f .address) (omega (arith, h .value)) (h .address)))
     (omega arith)
     (h .value)
 
@@ -144,3 +153,4 @@ fits-fields Break h = record { address = omega arith; value = omega arith }
 fits-fields Acknowledge h = record { address = omega arith; value = omega arith }
 fits-fields (Store a w) h = record { address = h .0; value = h .1 }
 fits-fields (Check a w) h = record { address = h .0; value = h .1 }
+fits-fields (Run a b) h = record { address = omega arith; value = omega (arith, h .0, h .1) }

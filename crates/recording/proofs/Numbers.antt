@@ -54,8 +54,9 @@ address-number (suc (suc (suc (suc (suc (suc zero)))))) a v w = refl
 address-number (suc (suc (suc (suc (suc (suc (suc zero))))))) a v w = refl
 address-number (suc (suc (suc (suc (suc (suc (suc (suc zero)))))))) a v w = refl
 address-number (suc (suc (suc (suc (suc (suc (suc (suc (suc zero))))))))) a v w = refl
-address-number (suc (suc (suc (suc (suc (suc (suc (suc (suc (suc k)))))))))) a v w =
-    let n = suc (suc (suc (suc (suc (suc (suc (suc (suc (suc k))))))))) in
+address-number (suc (suc (suc (suc (suc (suc (suc (suc (suc (suc zero)))))))))) a v w = refl
+address-number (suc (suc (suc (suc (suc (suc (suc (suc (suc (suc (suc k))))))))))) a v w =
+    let n = suc (suc (suc (suc (suc (suc (suc (suc (suc (suc (suc k)))))))))) in
     rw (
       ne-eqb n 1 (λ e. absurd (omega arith)),
       ne-eqb n 2 (λ e. absurd (omega arith)),

@@ -27,7 +27,7 @@ use Rattle.recording.proofs.Writing.{gives-number, gives-accepted, acce
 -- The kind that was decoded
 pub decoded-kind : (k a v w : ℕ) → isKind k ≡ true → kindNumber (decoded k a v w) ≡ k
 unfolding decoded
-decoded-kind k a v w = each-kind (λ (n : ℕ). kindNumber (decoded n a v w) ≡ n) refl refl refl refl refl refl refl refl refl k
+decoded-kind k a v w = each-kind (λ (n : ℕ). kindNumber (decoded n a v w) ≡ n) refl refl refl refl refl refl refl refl refl refl k
 
 read-kind : (u : List ℕ) → recordNumber u ≡ 0 → kindNumber (recordOf u) ≡ kindOf u
 unfolding recordOf

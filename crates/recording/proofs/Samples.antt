@@ -1,4 +1,4 @@
--- The samples of the nine kinds, by computation.
+-- The samples of the ten kinds, by computation.
 use mathlib.Core.Path.{refl}
 use Rattle.words.specs.Memory.{wordBytes}
 use Rattle.machine.specs.Address.{registerAt}
@@ -10,7 +10,7 @@ use Rattle.recording.specs.Samples.{samples, ReadAs, SamplesWritten}
 
 pub samples-read : ReadAs samples
 unfolding samples readRecord first recordNumber recordOf decoded registerAt
-samples-read = (refl, (refl, (refl, (refl, (refl, (refl, (refl, (refl, (refl, tt)))))))))
+samples-read = (refl, (refl, (refl, (refl, (refl, (refl, (refl, (refl, (refl, (refl, tt))))))))))
 
 pub samples-written : SamplesWritten
 unfolding samples writeBuffer writeAnswer writeNumber recordBy decoded registerAt wordBytes

@@ -17,8 +17,8 @@ use Rattle.machine.specs.Refusals.{check, isRegister, ifRefused, tenAsFive}
 use Rattle.machine.proofs.Address.{register-aligned}
 use Rattle.machine.proofs.Refusals.{if-accepted, if-refused}
 use Rattle.recording.specs.declared.Fields.{Fields}
-use Rattle.recording.specs.Kinds.{isKind, accesses, runsOrTicks, storesOrChecks, size, decoded, kindOf, recordOf}
-use Rattle.recording.specs.Fields.{ofKind, low, firstField, recordBy, SameFields, FieldsFit}
+use Rattle.recording.specs.Kinds.{isKind, accesses, runsOrTicks, storesOrChecks, runsBoth, size, decoded, kindOf, recordOf}
+use Rattle.recording.specs.Fields.{ofKind, low, high, firstField, recordBy, SameFields, FieldsFit}
 use Rattle.recording.specs.Reader.{memoryAllowed, addressNumber, recordNumber, found, longest, readRecord}
 use Rattle.recording.specs.Writer.{recordBytes, hasRoom, before, writeNumber, answered, writeAnswer, replaced, writeBuffer, WriteRecordGives}
 use Rattle.recording.specs.Written.{WriteNumbers, EveryWrite}
@@ -32,15 +32,16 @@ use Rattle.recording.proofs.Splitting.{read-accepted, drop-take}
 -- ---- The answers for some records, by computation
 
 -- The writer's numbers where there is no room: unknown kinds, 0x04040021 and 0x04040020 for a register and 0x03F00000 for memory come first. A BREAK
--- has no address
+-- and a merged run have no address
 pub numbers-of-writes : (writeNumber (ofKind 0 0 0) 0 0 ≡ 7)
-    × (writeNumber (ofKind 10 0 0) 0 0 ≡ 7)
+    × (writeNumber (ofKind 11 0 0) 0 0 ≡ 7)
     × (writeNumber (ofKind 1 0x04040021 0) 0 0 ≡ 10)
     × (writeNumber (ofKind 1 0x04040020 0) 0 0 ≡ 5)
     × (writeNumber (ofKind 8 0x03F00000 0) 0 0 ≡ 6)
     × (writeNumber (ofKind 6 0x04040020 0) 0 0 ≡ 14)
+    × (writeNumber (ofKind 10 0x04040020 0) 0 0 ≡ 14)
 unfolding writeNumber recordBy decoded registerAt
-numbers-of-writes = (refl, refl, refl, refl, refl, refl)
+numbers-of-writes = (refl, refl, refl, refl, refl, refl, refl)
 
 -- The last place of a BREAK and the one after it, in a buffer of one byte and in one that is longer than a recording; and the largest place
 pub room-edges : (writeNumber (ofKind 6 0 0) 0 1 ≡ 0)
@@ -59,33 +60,36 @@ place-after = refl
 -- ---- The numbers
 
 -- Kinds that name an address have no number of four bytes in its stead
-no-run-accesses : (k : ℕ) → accesses k && runsOrTicks k ≡ false
-no-run-accesses zero = refl
-no-run-accesses (suc zero) = refl
-no-run-accesses (suc (suc zero)) = refl
+no-run-accesses : (k : ℕ) → (accesses k && runsOrTicks k ≡ false) × (accesses k && runsBoth k ≡ false)
+no-run-accesses zero = (refl, refl)
+no-run-accesses (suc zero) = (refl, refl)
+no-run-accesses (suc (suc zero)) = (refl, refl)
 no-run-accesses (suc (suc (suc k))) =
     rw (ne-eqb (suc (suc (suc k))) 1 (λ e. absurd (omega arith)), ne-eqb (suc (suc (suc k))) 2 (λ e. absurd (omega arith)))
+    (refl, refl)
 
-no-run-stores : (k : ℕ) → storesOrChecks k && runsOrTicks k ≡ false
-no-run-stores zero = refl
-no-run-stores (suc zero) = refl
-no-run-stores (suc (suc zero)) = refl
-no-run-stores (suc (suc (suc zero))) = refl
-no-run-stores (suc (suc (suc (suc zero)))) = refl
-no-run-stores (suc (suc (suc (suc (suc zero))))) = refl
-no-run-stores (suc (suc (suc (suc (suc (suc zero)))))) = refl
-no-run-stores (suc (suc (suc (suc (suc (suc (suc zero))))))) = refl
-no-run-stores (suc (suc (suc (suc (suc (suc (suc (suc zero)))))))) = refl
-no-run-stores (suc (suc (suc (suc (suc (suc (suc (suc (suc zero))))))))) = refl
+no-run-stores : (k : ℕ) → (storesOrChecks k && runsOrTicks k ≡ false) × (storesOrChecks k && runsBoth k ≡ false)
+no-run-stores zero = (refl, refl)
+no-run-stores (suc zero) = (refl, refl)
+no-run-stores (suc (suc zero)) = (refl, refl)
+no-run-stores (suc (suc (suc zero))) = (refl, refl)
+no-run-stores (suc (suc (suc (suc zero)))) = (refl, refl)
+no-run-stores (suc (suc (suc (suc (suc zero))))) = (refl, refl)
+no-run-stores (suc (suc (suc (suc (suc (suc zero)))))) = (refl, refl)
+no-run-stores (suc (suc (suc (suc (suc (suc (suc zero))))))) = (refl, refl)
+no-run-stores (suc (suc (suc (suc (suc (suc (suc (suc zero)))))))) = (refl, refl)
+no-run-stores (suc (suc (suc (suc (suc (suc (suc (suc (suc zero))))))))) = (refl, refl)
 no-run-stores (suc (suc (suc (suc (suc (suc (suc (suc (suc (suc k)))))))))) =
     let n = suc (suc (suc (suc (suc (suc (suc (suc (suc (suc k))))))))) in
-    rw (ne-eqb n 8 (λ e. absurd (omega arith)), ne-eqb n 9 (λ e. absurd (omega arith)))
+    rw (ne-eqb n 8 (λ e. absurd (omega arith)), ne-eqb n 9 (λ e. absurd (omega arith))) (refl, refl)
 
 -- So their check is one of the address
-of-address : (P : ℕ → Bool) (b r : Bool) (x y : ℕ) → b && r ≡ false → implies b (P (cond r x y)) ≡ implies b (P y)
-of-address P true true x y e = contradiction refl e
-of-address P true false x y e = refl
-of-address P false r x y e = refl
+of-address : (P : ℕ → Bool) (b r s : Bool) (x y z : ℕ) → (b && r ≡ false) × (b && s ≡ false)
+    → implies b (P (cond r x (cond s y z))) ≡ implies b (P z)
+of-address P true true s x y z e = contradiction refl (e .0)
+of-address P true false true x y z e = contradiction refl (e .1)
+of-address P true false false x y z e = refl
+of-address P false r s x y z e = refl
 
 address-checks : (f : Fields)
     → addressNumber (recordBy f)
@@ -95,11 +99,13 @@ address-checks : (f : Fields)
 unfolding recordBy
 address-checks f =
     let k = f .kind in
+    let register = no-run-accesses k in
+    let memory = no-run-stores k in
     address-number k (firstField f) (low f) (f .value)
     ∙ rw (
-      of-address aligned (accesses k) (runsOrTicks k) (low f) (f .address) (no-run-accesses k),
-      of-address (λ (a : ℕ). isRegister (registerAt a)) (accesses k) (runsOrTicks k) (low f) (f .address) (no-run-accesses k),
-      of-address memoryAllowed (storesOrChecks k) (runsOrTicks k) (low f) (f .address) (no-run-stores k),
+      of-address aligned (accesses k) (runsOrTicks k) (runsBoth k) (low f) (high f) (f .address) register,
+      of-address (λ (a : ℕ). isRegister (registerAt a)) (accesses k) (runsOrTicks k) (runsBoth k) (low f) (high f) (f .address) register,
+      of-address memoryAllowed (storesOrChecks k) (runsOrTicks k) (runsBoth k) (low f) (high f) (f .address) memory,
     )
 
 -- The same over bare tests

@@ -5,7 +5,7 @@ use mathlib.Core.List.{List, [], _∷_}
 use lib.Dec.{leb, eqb}
 use lib.ListN.{getD}
 use Rattle.recording.specs.declared.Record.{Record}
-use Rattle.recording.specs.declared.Record.the-variants.{None, Write, Read, SpRun, DpRun, Tick, Break, Acknowledge, Store, Check}
+use Rattle.recording.specs.declared.Record.the-variants.{None, Write, Read, SpRun, DpRun, Tick, Break, Acknowledge, Store, Check, Run}
 
 -- A byte, 0 past the end
 abbrev pub byte : List ℕ → ℕ → ℕ
@@ -26,11 +26,11 @@ four s i = joined (byte s i) (byte s (i + 1)) (byte s (i + 2)) (byte s (i + 3))
 abbrev pub eight : List ℕ → ℕ → ℕ
 eight s i = four s i * 0x100000000 + four s (i + 4)
 
--- Kinds 1 to 9
+-- Kinds 1 to 10
 abbrev pub isKind : ℕ → Bool
-isKind kind = leb 1 kind && leb kind 9
+isKind kind = leb 1 kind && leb kind 10
 
--- Those that name a register, those that have one number of four bytes, and those that name a memory address
+-- Those that name a register, those that have one number of four bytes, those that name a memory address, and the one that has two budgets
 abbrev pub accesses : ℕ → Bool
 accesses kind = eqb kind 1 || eqb kind 2
 
@@ -40,9 +40,12 @@ runsOrTicks kind = leb 3 kind && leb kind 5
 abbrev pub storesOrChecks : ℕ → Bool
 storesOrChecks kind = eqb kind 8 || eqb kind 9
 
+abbrev pub runsBoth : ℕ → Bool
+runsBoth kind = eqb kind 10
+
 -- The length of the body of each kind, from 0 on, which is no kind
 abbrev pub bodies : List ℕ
-bodies = 0 ∷ 8 ∷ 8 ∷ 4 ∷ 4 ∷ 4 ∷ 0 ∷ 0 ∷ 12 ∷ 12 ∷ []
+bodies = 0 ∷ 8 ∷ 8 ∷ 4 ∷ 4 ∷ 4 ∷ 0 ∷ 0 ∷ 12 ∷ 12 ∷ 8 ∷ []
 
 abbrev pub bodySize : ℕ → ℕ
 bodySize kind = getD bodies kind 0
@@ -64,6 +67,7 @@ kinds a v w =
     ∷ Acknowledge
     ∷ Store a w
     ∷ Check a w
+    ∷ Run a v
     ∷ []
 
 unfoldable pub decoded : ℕ → ℕ → ℕ → ℕ → Record

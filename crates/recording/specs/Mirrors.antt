@@ -7,7 +7,7 @@ use mathlib.Core.List.{List, [], _∷_, _++_, map}
 use lib.ListN.{length, drop}
 use Rattle.machine.specs.Address.{firstCopy}
 use Rattle.recording.specs.declared.Record.{Record}
-use Rattle.recording.specs.declared.Record.the-variants.{None, Write, Read, SpRun, DpRun, Tick, Break, Acknowledge, Store, Check}
+use Rattle.recording.specs.declared.Record.the-variants.{None, Write, Read, SpRun, DpRun, Tick, Break, Acknowledge, Store, Check, Run}
 use Rattle.recording.specs.declared.Fields.{Fields}
 use Rattle.recording.specs.Kinds.{accesses}
 use Rattle.recording.specs.Fields.{ofKind, recordBy}
@@ -27,6 +27,7 @@ atFirstCopy Break = Break
 atFirstCopy Acknowledge = Acknowledge
 atFirstCopy (Store a w) = Store a w
 atFirstCopy (Check a w) = Check a w
+atFirstCopy (Run a b) = Run a b
 
 -- The bytes of records, one after another
 abbrev pub allBytes : List Record → List ℕ

@@ -8,7 +8,7 @@ use lib.ListN.{length, drop}
 use Rattle.machine.specs.Address.{registerAt}
 use Rattle.machine.specs.Refusals.{check, registerNumber, ifRefused}
 use Rattle.recording.specs.declared.Record.{Record}
-use Rattle.recording.specs.declared.Record.the-variants.{None, Write, Read, SpRun, DpRun, Tick, Break, Acknowledge, Store, Check}
+use Rattle.recording.specs.declared.Record.the-variants.{None, Write, Read, SpRun, DpRun, Tick, Break, Acknowledge, Store, Check, Run}
 use Rattle.recording.specs.declared.Reading.{Reading}
 use Rattle.recording.specs.Kinds.{isKind, size, kindOf, recordOf}
 
@@ -31,6 +31,7 @@ addressNumber Break = 0
 addressNumber Acknowledge = 0
 addressNumber (Store a w) = memoryNumber a
 addressNumber (Check a w) = memoryNumber a
+addressNumber (Run a b) = 0
 
 -- The number of the first check that fails for the record that bytes begin with: 8 where there is no byte at all, 7 unknown kind, 8 cut
 -- short, 10 register address not a multiple of 4, 5 not a register, 6 memory address not allowed

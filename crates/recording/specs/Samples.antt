@@ -4,7 +4,7 @@ use mathlib.Core.Path.{_≡_}
 use mathlib.Core.List.{List, [], _∷_, _++_, map}
 use lib.ListN.{length, replicate}
 use Rattle.recording.specs.declared.Record.{Record}
-use Rattle.recording.specs.declared.Record.the-variants.{Write, Read, SpRun, DpRun, Tick, Break, Acknowledge, Store, Check}
+use Rattle.recording.specs.declared.Record.the-variants.{Write, Read, SpRun, DpRun, Tick, Break, Acknowledge, Store, Check, Run}
 use Rattle.recording.specs.Fields.{fieldsOf}
 use Rattle.recording.specs.Reader.{found, readRecord}
 use Rattle.recording.specs.Writer.{writeNumber, answered, writeAnswer, writeBuffer}
@@ -27,6 +27,7 @@ samples =
     ∷ sample (7 ∷ []) Acknowledge
     ∷ sample (8 ∷ 0x03 ∷ 0xEF ∷ 0xFF ∷ 0xF8 ∷ 0x01 ∷ 0x23 ∷ 0x45 ∷ 0x67 ∷ 0x89 ∷ 0xAB ∷ 0xCD ∷ 0xEF ∷ []) (Store 0x03EFFFF8 0x0123456789ABCDEF)
     ∷ sample (9 ∷ 0x04 ∷ 0x00 ∷ 0x1F ∷ 0xF8 ∷ 0xFE ∷ 0xDC ∷ 0xBA ∷ 0x98 ∷ 0x76 ∷ 0x54 ∷ 0x32 ∷ 0x10 ∷ []) (Check 0x04001FF8 0xFEDCBA9876543210)
+    ∷ sample (10 ∷ 0xA1 ∷ 0xB2 ∷ 0xC3 ∷ 0xD4 ∷ 0x0E ∷ 0x1F ∷ 0x20 ∷ 0x31 ∷ []) (Run 0xA1B2C3D4 0x0E1F2031)
     ∷ []
 
 -- The reader finds each record, and the place after it is the end
@@ -46,4 +47,4 @@ pub record SamplesWritten : Type 0 where
   pub bytes : map (λ (x : Sample). writeBuffer (fieldsOf (x .item)) 1 (blank x)) samples ≡ map (λ (x : Sample). around (x .bytes)) samples
   pub answers : map (λ (x : Sample). writeAnswer (fieldsOf (x .item)) 1 (blank x)) samples
       ≡ map (λ (x : Sample). answered 0 (1 + length (x .bytes))) samples
-  pub short : map (λ (x : Sample). writeNumber (fieldsOf (x .item)) 1 (length (x .bytes))) samples ≡ replicate 9 14
+  pub short : map (λ (x : Sample). writeNumber (fieldsOf (x .item)) 1 (length (x .bytes))) samples ≡ replicate 10 14

@@ -9,7 +9,7 @@ use Rattle.words.specs.Memory.{lowByte, wordBytes}
 use Rattle.machine.specs.declared.Answer.{Answer}
 use Rattle.machine.specs.Refusals.{check, ifRefused}
 use Rattle.recording.specs.declared.Record.{Record}
-use Rattle.recording.specs.declared.Record.the-variants.{None, Write, Read, SpRun, DpRun, Tick, Break, Acknowledge, Store, Check}
+use Rattle.recording.specs.declared.Record.the-variants.{None, Write, Read, SpRun, DpRun, Tick, Break, Acknowledge, Store, Check, Run}
 use Rattle.recording.specs.declared.Fields.{Fields}
 use Rattle.recording.specs.Kinds.{isKind, size}
 use Rattle.recording.specs.Fields.{recordBy}
@@ -31,6 +31,7 @@ recordBytes Break = 6 ∷ []
 recordBytes Acknowledge = 7 ∷ []
 recordBytes (Store a w) = 8 ∷ fourBytes a ++ wordBytes w
 recordBytes (Check a w) = 9 ∷ fourBytes a ++ wordBytes w
+recordBytes (Run a b) = 10 ∷ fourBytes a ++ fourBytes b
 
 -- A record of this kind ends within n bytes, and within the longest recording
 abbrev pub hasRoom : ℕ → ℕ → ℕ → Bool

@@ -104,6 +104,7 @@ by-kind k a w d =
     (puts-1 d 7 a l l)
     (λ h. rw word-halves (puts-13 d 8 a (w / 0x100000000) l h))
     (λ h. rw word-halves (puts-13 d 9 a (w / 0x100000000) l h))
+    (puts-9 d 10 (w / 0x100000000) l l)
     k
 
 -- Out of what the steps give

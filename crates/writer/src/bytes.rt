@@ -1,11 +1,11 @@
 // The bytes of a record, into a part of a buffer.
 use crate::named::first_field;
+use crate::named::high_half;
 use crate::named::low_half;
 use recording::Fields;
 use words::fields::pick;
 ghost use mathlib.Core.Path.{_≡_};
 ghost use mathlib.Core.Bool.{true};
-ghost use Prim.Native.Nat.{_+_, _/_};
 ghost use lib.ListN.{length, set};
 ghost use Rattle.words.specs.Memory.{lowByte};
 ghost use Rattle.recording.specs.Kinds.{isKind, size};
@@ -13,13 +13,7 @@ ghost use Rattle.recording.specs.Fields.{recordBy};
 ghost use Rattle.recording.specs.Writer.{recordBytes};
 ghost use Rattle.writer.specs.Parts.{secondField, fourPut};
 
-fn high_half(value: u64) -> u32
-    ensures { λ r. ⌜ r ≡ value / 0x100000000 ⌝ }
-{
-    (value / 0x100000000) as u32
-}
-
-// What stands after the first field: the upper half of the word of kinds 8 and 9, the value of kinds 1 and 2.
+// What stands after the first field: the upper half of the word of kinds 8 and 9, the value of kinds 1 and 2, the lower half of the value of kind 10.
 fn second_field(f: Fields) -> u32
     ensures { λ r. ⌜ r ≡ secondField f ⌝ }
 {

@@ -4,7 +4,7 @@ use recording::Fields;
 use recording::Record;
 use words::fields::pick;
 ghost use mathlib.Core.Path.{_≡_};
-ghost use Prim.Native.Nat.{_%_};
+ghost use Prim.Native.Nat.{_/_, _%_};
 ghost use Rattle.recording.specs.Fields.{ofKind, fieldsOf, firstField, recordBy};
 
 fn of_kind(kind: u8, address: u32, value: u64) -> Fields
@@ -17,7 +17,7 @@ fn of_kind(kind: u8, address: u32, value: u64) -> Fields
     }
 }
 
-// The kind and the fields of a record; a field that its kind does not have is 0.
+// The kind and the fields of a record; a field that its kind does not have is 0, and two budgets are the halves of one value.
 pub fn fields_of(item: Record) -> Fields
     ensures { λ r. ⌜ r ≡ fieldsOf item ⌝ }
 {
@@ -32,6 +32,7 @@ pub fn fields_of(item: Record) -> Fields
         Record::Acknowledge => of_kind(7, 0, 0),
         Record::Store(a, word) => of_kind(8, a, word),
         Record::Check(a, word) => of_kind(9, a, word),
+        Record::Run(sp, dp) => of_kind(10, 0, sp as u64 * 0x100000000 + dp as u64),
     }
 }
 
@@ -42,11 +43,19 @@ pub(crate) fn low_half(value: u64) -> u32
     (value % 0x100000000) as u32
 }
 
-// What a body begins with: the value of kinds 3 to 5, the address of the others.
+// The upper 32 bits of a value.
+pub(crate) fn high_half(value: u64) -> u32
+    ensures { λ r. ⌜ r ≡ value / 0x100000000 ⌝ }
+{
+    (value / 0x100000000) as u32
+}
+
+// What a body begins with: the value of kinds 3 to 5, the upper half of the value of kind 10, the address of the others.
 pub(crate) fn first_field(f: Fields) -> u32
     ensures { λ r. ⌜ r ≡ firstField f ⌝ }
 {
-    pick((3 <= f.kind) & (f.kind <= 5), low_half(f.value), f.address)
+    let other = pick(f.kind == 10, high_half(f.value), f.address);
+    pick((3 <= f.kind) & (f.kind <= 5), low_half(f.value), other)
 }
 
 // The record of this kind with these fields, None where the kind is unknown.

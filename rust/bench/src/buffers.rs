@@ -38,6 +38,7 @@ impl Buffers {
 pub struct Left {
     state: ofersky::State,
     count: u32,
+    words: u32,
 }
 
 impl From<ofersky::Outcome> for Left {
@@ -46,6 +47,16 @@ impl From<ofersky::Outcome> for Left {
         Left {
             state: outcome.state,
             count: outcome.answer.count,
+            words: 0,
+        }
+    }
+}
+
+impl From<ofersky::Ran> for Left {
+    fn from(ran: ofersky::Ran) -> Left {
+        Left {
+            words: ran.words,
+            ..ran.outcome.into()
         }
     }
 }
@@ -63,6 +74,7 @@ impl From<usize> for Left {
         Left {
             state: ofersky::State::default(),
             count: place as u32,
+            words: 0,
         }
     }
 }
@@ -72,6 +84,7 @@ impl From<Ran> for Left {
         Left {
             state: state_of(&ran.machine),
             count: ran.count,
+            words: ran.words,
         }
     }
 }

@@ -1,5 +1,5 @@
-//! How fast the library is, beside the same loop in plain Rust and beside a plain copy of as many bytes; and what the DP's words took in an earlier library, if
-//! build.rs was told of one.
+//! How fast the library is, beside the same loop in plain Rust and beside a plain copy of as many bytes; and what the words of runs and of DP turns took in an
+//! earlier library, if build.rs was told of one.
 
 #[cfg(before)]
 mod before;
@@ -18,7 +18,7 @@ fn main() {
     cases::all(&mut show);
     #[cfg(before)]
     {
-        println!("\nBefore is the library that OFERSKY_BEFORE names.\n");
+        println!("\nBefore is the library that OFERSKY_BEFORE names; for both engines, its SP run and then its DP run.\n");
         head("Ours | Before | Plain Rust | Ours / before");
         cases::before_and_after(&mut show);
     }

@@ -21,12 +21,10 @@ pub enum Call {
     Break,
     Acknowledge,
     SpTurn,
-    SpRun {
-        budget: u32,
-    },
     DpTurn,
-    DpRun {
-        budget: u32,
+    /// The SP's budget and then the DP's.
+    Run {
+        budgets: [u32; 2],
         out: usize,
     },
     Look,
@@ -58,7 +56,7 @@ pub struct Case {
 }
 
 /// The names of the calls, in the order of `Call::index`.
-pub const NAMES: [&str; 16] = [
+pub const NAMES: [&str; 15] = [
     "power_up",
     "is_sound",
     "read_register",
@@ -67,9 +65,8 @@ pub const NAMES: [&str; 16] = [
     "sp_break",
     "acknowledge",
     "sp_turn",
-    "sp_run",
     "dp_turn",
-    "dp_run",
+    "run",
     "look_ahead",
     "read_record",
     "write_record",
@@ -88,14 +85,13 @@ impl Call {
             Call::Break => 5,
             Call::Acknowledge => 6,
             Call::SpTurn => 7,
-            Call::SpRun { .. } => 8,
-            Call::DpTurn => 9,
-            Call::DpRun { .. } => 10,
-            Call::Look => 11,
-            Call::ReadRecord { .. } => 12,
-            Call::WriteRecord { .. } => 13,
-            Call::Replay { .. } => 14,
-            Call::Verdict { .. } => 15,
+            Call::DpTurn => 8,
+            Call::Run { .. } => 9,
+            Call::Look => 10,
+            Call::ReadRecord { .. } => 11,
+            Call::WriteRecord { .. } => 12,
+            Call::Replay { .. } => 13,
+            Call::Verdict { .. } => 14,
         }
     }
 
@@ -107,12 +103,7 @@ impl Call {
     pub fn takes_memory(&self) -> bool {
         matches!(
             self,
-            Call::SpTurn
-                | Call::SpRun { .. }
-                | Call::DpTurn
-                | Call::DpRun { .. }
-                | Call::Look
-                | Call::Replay { .. }
+            Call::SpTurn | Call::DpTurn | Call::Run { .. } | Call::Look | Call::Replay { .. }
         )
     }
 
@@ -124,7 +115,7 @@ impl Call {
     /// The output that it is lent, empty where it takes none. Of a record that is written it is the buffer.
     pub fn output(&self) -> Vec<u8> {
         match self {
-            Call::DpRun { out, .. } | Call::Replay { out, .. } => output(*out),
+            Call::Run { out, .. } | Call::Replay { out, .. } => output(*out),
             Call::WriteRecord { buffer, .. } => buffer.clone(),
             _ => Vec::new(),
         }

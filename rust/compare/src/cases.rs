@@ -7,7 +7,11 @@ use crate::values::*;
 use ofersky::State;
 
 /// The kinds of call that act on a state, for `call_of`.
-pub const ON_A_STATE: usize = 11;
+pub const ON_A_STATE: usize = 10;
+
+/// The first of them that takes memory, and the run of both engines.
+pub const ON_MEMORY: usize = 6;
+pub const RUN: usize = 8;
 
 /// A call of this kind, with arguments that suit the state.
 pub fn call_of(random: &mut Random, kind: usize, state: &State, rdram: usize) -> Call {
@@ -24,15 +28,9 @@ pub fn call_of(random: &mut Random, kind: usize, state: &State, rdram: usize) ->
         3 => Call::Tick { n: ticks(random) },
         4 => Call::Break,
         5 => Call::Acknowledge,
-        6 => Call::SpTurn,
-        7 => Call::SpRun {
-            budget: budget(random, sp_left(state)),
-        },
-        8 => Call::DpTurn,
-        9 => Call::DpRun {
-            budget: budget(random, dp_left(state)),
-            out: run_output(random),
-        },
+        ON_MEMORY => Call::SpTurn,
+        7 => Call::DpTurn,
+        RUN => run_of(random, state),
         _ => Call::Look,
     }
 }
@@ -46,11 +44,29 @@ fn any_address(random: &mut Random) -> u32 {
     }
 }
 
-/// The length of a DP run's output: none, less than a word, some words and a rest.
-fn run_output(random: &mut Random) -> usize {
-    match random.below(4) {
+/// A run of both engines, or with a budget of 0 for one of them.
+pub fn run_of(random: &mut Random, state: &State) -> Call {
+    let alone = random.below(6);
+    let mut budget = |engine, left| {
+        if alone == engine {
+            0
+        } else {
+            budget(random, left)
+        }
+    };
+    let budgets = [budget(0, sp_left(state)), budget(1, dp_left(state))];
+    let out = run_output(random, dp_left(state));
+    Call::Run { budgets, out }
+}
+
+/// The length of a run's output: none, less than a word, some words and a rest, or what so many words take, a byte less or more.
+fn run_output(random: &mut Random, words: u64) -> usize {
+    let needed = 8 * words.min(300) as usize;
+    match random.below(6) {
         0 => random.pick(&[0, 1, 7, 8, 9, 15, 16]),
         1 => random.place(300),
+        2 => random.pick(&[needed, needed + 1, needed + 7, needed.saturating_sub(1)]),
+        3 => random.place(needed + 1),
         _ => random.pick(&[64, 2_048, 2_051]),
     }
 }

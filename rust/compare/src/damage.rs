@@ -43,7 +43,7 @@ pub fn flipped(random: &mut Random, recording: &[u8]) -> Vec<u8> {
         let at = random.place(damaged.len());
         damaged[at] = match random.below(3) {
             0 => damaged[at] ^ 1 << random.below(8),
-            1 => random.below(12) as u8,
+            1 => random.below(13) as u8,
             _ => random.byte(),
         };
     }

@@ -45,6 +45,7 @@ fn numbers(seen: &Seen) -> Vec<(&'static str, u64)> {
         ("number", answer.number.into()),
         ("value", answer.value),
         ("count", answer.count.into()),
+        ("words", seen.words.into()),
         ("sound", seen.sound.into()),
         ("part.memory", memory.into()),
         ("part.offset", offset.into()),

@@ -24,7 +24,7 @@ pub fn any_item(random: &mut Random) -> Record {
 }
 
 pub fn known_kind(random: &mut Random) -> u8 {
-    1 + random.below(9) as u8
+    1 + random.below(10) as u8
 }
 
 /// A record of this kind whose address is allowed. What its kind does not have is anything: an address, or the upper half of the value.
@@ -36,10 +36,13 @@ pub fn good_item(random: &mut Random, kind: u8) -> Record {
     };
     let low = match kind {
         1 | 2 => value_for(random, address, RDRAM),
-        3 | 4 => budget(random, 20),
+        3 | 4 | 10 => budget(random, 20),
         _ => register_value(random),
     };
-    let high = register_value(random) & random.pick(&[0, u32::MAX]);
+    let high = match kind {
+        10 => budget(random, 20),
+        _ => register_value(random) & random.pick(&[0, u32::MAX]),
+    };
     Record {
         value: u64::from(high) << 32 | u64::from(low),
         address,

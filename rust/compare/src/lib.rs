@@ -16,6 +16,7 @@ pub mod memory;
 pub mod random;
 pub mod records;
 pub mod report;
+pub mod runs;
 pub mod seen;
 pub mod shrink;
 pub mod states;

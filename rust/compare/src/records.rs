@@ -12,6 +12,7 @@ pub fn record_length(kind: u8) -> Option<usize> {
         3..=5 => Some(5),
         6 | 7 => Some(1),
         8 | 9 => Some(13),
+        10 => Some(9),
         _ => None,
     }
 }
@@ -95,7 +96,12 @@ fn meaning(record: &[u8]) -> String {
         6 => "BREAK".to_string(),
         7 => "acknowledge".to_string(),
         8 => format!("store {} {}", address(), number(5, 13)),
-        _ => format!("check {}, expected {}", address(), number(5, 13)),
+        9 => format!("check {}, expected {}", address(), number(5, 13)),
+        _ => format!(
+            "run, SP budget {}, DP budget {}",
+            number(1, 5),
+            number(5, 9)
+        ),
     }
 }
 

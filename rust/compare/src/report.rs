@@ -60,8 +60,10 @@ fn arguments(call: &Call) -> String {
         Call::Read { address } => format!(" {}", address_name(*address)),
         Call::Write { address, value } => format!(" {} 0x{value:08X}", address_name(*address)),
         Call::Tick { n } => format!(" 0x{n:X}"),
-        Call::SpRun { budget } => format!(", budget 0x{budget:X}"),
-        Call::DpRun { budget, out } => format!(", budget 0x{budget:X}, output of {out} bytes"),
+        Call::Run {
+            budgets: [sp, dp],
+            out,
+        } => format!(", SP budget 0x{sp:X}, DP budget 0x{dp:X}, output of {out} bytes"),
         Call::ReadRecord { place, .. } => format!(" at place {place}"),
         Call::WriteRecord { item, place, .. } => format!(
             ", kind {}, address {}, value 0x{:X}, at place {place}",

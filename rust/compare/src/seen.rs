@@ -5,12 +5,14 @@ use crate::fields::{from_model, to_model};
 use crate::guard::Guarded;
 use crate::verdicts;
 use model::calls;
-use ofersky::{Answer, Findings, Outcome, Part, Reading, Record, Replayed, State, Verdict};
+use ofersky::{Answer, Findings, Outcome, Part, Ran, Reading, Record, Replayed, State, Verdict};
 
 /// All that can be seen of a call. A field that the call does not give is zero on both sides.
 #[derive(Clone, Debug, Default, PartialEq, Eq)]
 pub struct Seen {
     pub outcome: Outcome,
+    /// How many words the DP handed out in a run.
+    pub words: u32,
     pub sound: bool,
     pub part: Part,
     pub reading: Reading,
@@ -33,7 +35,7 @@ pub type Side = fn(&Case) -> Seen;
 
 impl Seen {
     /// Memory as it is lent. A call that takes none gets no bytes to compare.
-    fn lent(case: &Case) -> Seen {
+    pub(crate) fn lent(case: &Case) -> Seen {
         let [rdram, dmem, imem] = if case.call.takes_memory() {
             case.lent.bytes()
         } else {
@@ -48,6 +50,14 @@ impl Seen {
     /// The number of the refusal, wherever the call gives it.
     pub fn number(&self) -> u32 {
         self.outcome.answer.number + self.reading.number
+    }
+
+    /// All that a run gives.
+    fn take_run(&mut self, ran: Ran) {
+        Ran {
+            outcome: self.outcome,
+            words: self.words,
+        } = ran;
     }
 
     /// All that a replay gives.
@@ -107,9 +117,10 @@ fn call_library(case: &Case, seen: &mut Seen, lent: [&mut [u8]; 4]) {
         Call::Break => seen.outcome = ofersky::sp_break(s),
         Call::Acknowledge => seen.outcome = ofersky::acknowledge(s),
         Call::SpTurn => seen.outcome = ofersky::sp_turn(s, rdram, dmem, imem),
-        Call::SpRun { budget } => seen.outcome = ofersky::sp_run(s, *budget, rdram, dmem, imem),
         Call::DpTurn => seen.outcome = ofersky::dp_turn(s, rdram, dmem),
-        Call::DpRun { budget, .. } => seen.outcome = ofersky::dp_run(s, *budget, rdram, dmem, out),
+        Call::Run {
+            budgets: [sp, dp], ..
+        } => seen.take_run(ofersky::run(s, *sp, *dp, rdram, dmem, imem, out)),
         Call::Look => {
             seen.part = ofersky::look_ahead(s, rdram, dmem);
             // A part that doesn't fit is told by its numbers; taking it would only panic.
@@ -148,12 +159,12 @@ pub fn model(case: &Case) -> Seen {
         Call::Break => seen.outcome = given(calls::sp_break(s)),
         Call::Acknowledge => seen.outcome = given(calls::acknowledge(s)),
         Call::SpTurn => seen.outcome = given(calls::sp_turn(s, rdram, dmem, imem)),
-        Call::SpRun { budget } => {
-            seen.outcome = given(calls::sp_run(s, *budget, rdram, dmem, imem))
-        }
         Call::DpTurn => seen.outcome = given(calls::dp_turn(s, rdram, dmem)),
-        Call::DpRun { budget, .. } => {
-            seen.outcome = given(calls::dp_run(s, *budget, rdram, dmem, out))
+        Call::Run {
+            budgets: [sp, dp], ..
+        } => {
+            let ran = calls::run(s, *sp, *dp, rdram, dmem, imem, out);
+            seen.take_run(run(&ran));
         }
         Call::Look => (seen.part, *word) = looked(s, rdram, dmem),
         Call::ReadRecord { recording, place } => {
@@ -168,6 +179,20 @@ pub fn model(case: &Case) -> Seen {
         Call::Verdict { replayed } => {
             seen.judge_by_model(&verdicts::to_model(&judged(case.state, replayed)))
         }
+    }
+    seen
+}
+
+/// The model's side of an accepted run, with all SP turns before the DP's.
+pub fn sp_first(case: &Case) -> Seen {
+    let mut seen = Seen::lent(case);
+    let [rdram, dmem, imem, out, _] = &mut seen.bytes;
+    if let Call::Run { budgets, .. } = case.call {
+        let s = to_model(&case.state);
+        let moved = calls::run(&s, budgets[0], 0, rdram, dmem, imem, out).outcome;
+        let mut ran = calls::run(&moved.state, 0, budgets[1], rdram, dmem, imem, out);
+        ran.outcome.answer.count = moved.answer.count;
+        seen.take_run(run(&ran));
     }
     seen
 }
@@ -213,6 +238,13 @@ fn part_of<'a>(part: &Part, rdram: &'a [u8], dmem: &'a [u8]) -> Option<&'a [u8]>
     let memory = if part.memory == 0 { rdram } else { dmem };
     let from = part.offset as usize;
     memory.get(from..from + part.length as usize)
+}
+
+fn run(ran: &calls::Ran) -> Ran {
+    Ran {
+        outcome: given(ran.outcome),
+        words: ran.words,
+    }
 }
 
 fn replay(replayed: &calls::Replayed) -> Replayed {

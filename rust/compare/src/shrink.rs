@@ -231,9 +231,9 @@ fn argument(call: &Call, i: usize) -> u64 {
     match (call, i) {
         (Call::Write { value, .. }, 0) => u64::from(*value),
         (Call::Tick { n }, 0) => u64::from(*n),
-        (Call::SpRun { budget } | Call::DpRun { budget, .. }, 0) => u64::from(*budget),
+        (Call::Run { budgets, .. }, 0 | 2) => u64::from(budgets[i / 2]),
         (Call::ReadRecord { place, .. } | Call::WriteRecord { place, .. }, 0) => *place as u64,
-        (Call::DpRun { out, .. } | Call::Replay { out, .. }, 1) => *out as u64,
+        (Call::Run { out, .. } | Call::Replay { out, .. }, 1) => *out as u64,
         (Call::WriteRecord { buffer, .. }, 1) => buffer.len() as u64,
         (Call::WriteRecord { item, .. }, 2) => item.value,
         (Call::WriteRecord { item, .. }, 3) => u64::from(item.address),
@@ -245,11 +245,11 @@ fn set_argument(call: &mut Call, i: usize, to: u64) {
     match (call, i) {
         (Call::Write { value, .. }, 0) => *value = to as u32,
         (Call::Tick { n }, 0) => *n = to as u32,
-        (Call::SpRun { budget } | Call::DpRun { budget, .. }, 0) => *budget = to as u32,
+        (Call::Run { budgets, .. }, 0 | 2) => budgets[i / 2] = to as u32,
         (Call::ReadRecord { place, .. } | Call::WriteRecord { place, .. }, 0) => {
             *place = to as usize
         }
-        (Call::DpRun { out, .. } | Call::Replay { out, .. }, 1) => *out = to as usize,
+        (Call::Run { out, .. } | Call::Replay { out, .. }, 1) => *out = to as usize,
         (Call::WriteRecord { buffer, .. }, 1) => buffer.truncate(to as usize),
         (Call::WriteRecord { item, .. }, 2) => item.value = to,
         (Call::WriteRecord { item, .. }, 3) => item.address = to as u32,

@@ -2,7 +2,9 @@
 
 use crate::fields::{field, FLAGS};
 use crate::random::Random;
-use crate::values::{count, length, length_word, ram_address, register_value, sp_address};
+use crate::values::{
+    count, length, length_word, ram_address, register_value, sp_address, ADDRESS_BITS,
+};
 use ofersky::{DpState, SpState, State};
 
 /// A sound state; RDRAM has this length.
@@ -109,6 +111,33 @@ fn settle(dp: &mut DpState) {
         dp.endpending = 0;
     }
     dp.startpending |= dp.endpending;
+}
+
+/// A sound state in which both engines have some words left, but for FREEZE at times. Mostly the SP writes into the memory that the
+/// list is in, and often where the list has yet to be fetched, or beside it.
+pub fn both_busy(random: &mut Random, rdram: usize) -> State {
+    let mut state = sound(random, rdram);
+    let State { sp, dp } = &mut state;
+    let words = 1 + random.below(30) as u32;
+    dp.current = ram_address(random, rdram).min(0xFF_F000);
+    dp.limit = dp.current + 8 * words;
+    (dp.flush, dp.freeze) = (0, u8::from(random.once_in(10)));
+    (sp.busy, sp.row) = (1, sp.row & 0x78);
+    sp.len = sp.len.min(sp.row);
+    if random.once_in(3) {
+        sp.count = random.below(4) as u32;
+    }
+    if !random.once_in(6) {
+        sp.storing = 1 - dp.xbus;
+    }
+    if !random.once_in(3) {
+        // From some words before the list to some after it.
+        let place = (dp.current + 8 * random.below(u64::from(words) + 8) as u32).wrapping_sub(0x20);
+        sp.ramaddr = place & ADDRESS_BITS;
+        sp.spaddr = place & 0xFF8;
+    }
+    settle(dp);
+    state
 }
 
 /// The ways to break a state, one clause each. A number field is broken above its width or below its multiple of 8.

@@ -3,6 +3,7 @@
 use crate::call::{Call, Case, NAMES};
 use crate::events::{Event, Events};
 use crate::records::pieces;
+use crate::runs::Runs;
 use crate::seen::Seen;
 use crate::values::{first_copy, is_register};
 use crate::verdicts::{compared, CODES};
@@ -36,6 +37,7 @@ pub struct Totals {
     /// The verdicts by call, in the order of `CODES`.
     pub verdicts: [[u64; CODES.len()]; NAMES.len()],
     pub findings: Found,
+    pub runs: Runs,
     pub events: Events,
 }
 
@@ -89,6 +91,7 @@ impl Totals {
             .into_iter()
             .filter(|address| first_copy(*address) != *address);
         self.mirrors[call] += mirrors.count() as u64;
+        self.runs.count(case, seen);
         if call == REPLAY || call == VERDICT {
             let verdict = CODES.iter().position(|(code, _)| *code == seen.code);
             self.verdicts[call][verdict.expect("a verdict's code")] += 1;
@@ -120,6 +123,7 @@ impl Totals {
             other.verdicts.as_flattened(),
         );
         self.findings.add(&other.findings);
+        self.runs.add(&other.runs);
         self.events.add(&other.events);
     }
 

@@ -70,10 +70,11 @@ impl<'a> Traffic<'a> {
 
     /// One scene, chosen at random.
     pub fn scene(&mut self) {
-        match self.random.below(8) {
+        match self.random.below(10) {
             0 | 1 => self.transfers(),
             2..=4 => self.lists(),
             5 => self.one_by_one(),
+            6 | 7 => self.both_engines(),
             _ => {
                 for _ in 0..self.random.below(4) {
                     self.aside();
@@ -107,26 +108,48 @@ impl<'a> Traffic<'a> {
         self.sp_run();
     }
 
+    /// A run that is meant for the SP; at times the DP takes part.
     fn sp_run(&mut self) {
+        if self.random.once_in(6) {
+            return self.run();
+        }
         let left = sp_left(&from_model(&self.watch.state));
         let budget = budget(self.random, left);
         self.push(Record::SpRun { budget });
     }
 
+    /// A run that is meant for the DP; at times the SP takes part.
     fn dp_run(&mut self) {
+        if self.random.once_in(6) {
+            return self.run();
+        }
         let left = dp_left(&from_model(&self.watch.state));
         let budget = budget(self.random, left);
         self.push(Record::DpRun { budget });
     }
 
+    fn run(&mut self) {
+        let state = from_model(&self.watch.state);
+        let sp_budget = budget(self.random, sp_left(&state));
+        let dp_budget = budget(self.random, dp_left(&state));
+        self.push(Record::Run {
+            sp_budget,
+            dp_budget,
+        });
+    }
+
     /// Runs of one word, with a look at the registers between.
     fn one_by_one(&mut self) {
         for _ in 0..self.random.below(6) {
-            if self.random.once_in(2) {
-                self.push(Record::SpRun { budget: 1 });
-            } else {
-                self.push(Record::DpRun { budget: 1 });
-            }
+            let record = match self.random.below(3) {
+                0 => Record::SpRun { budget: 1 },
+                1 => Record::DpRun { budget: 1 },
+                _ => Record::Run {
+                    sp_budget: 1,
+                    dp_budget: 1,
+                },
+            };
+            self.push(record);
             let address = self
                 .random
                 .pick(&[SP_RAMADDR, SP_RDLEN, DP_CURRENT, DP_STATUS]);
@@ -153,6 +176,37 @@ impl<'a> Traffic<'a> {
             }
         }
         self.dp_run();
+    }
+
+    /// A list and a transfer that writes into the same memory, often where the list has yet to be fetched; and runs of both.
+    fn both_engines(&mut self) {
+        let xbus = self.random.once_in(3);
+        let clear = self.random.pick(&[0x14, 0x14, 0x14, 0x10]);
+        self.write(DP_STATUS, clear | if xbus { 2 } else { 1 });
+        let start = self.list_start(xbus);
+        let end = self.commands(start, xbus);
+        self.write(DP_START, start);
+        // At times a list that is longer than the output.
+        let far = start.saturating_add(8 * 300).min(ADDRESS_BITS);
+        let end = self.random.pick(&[end, end, end, far]);
+        self.write(DP_END, end);
+        self.sp_run();
+        // The SP comes to the words of the list before the DP, or after it.
+        let near = (start + 8 * self.random.below(8) as u32).wrapping_sub(0x20) & ADDRESS_BITS;
+        let place = if self.random.once_in(4) {
+            ram_address(self.random, self.rdram())
+        } else {
+            near
+        };
+        self.write(SP_SPADDR, place & 0xFF8);
+        self.write(SP_RAMADDR, place);
+        let word = length_word(self.random);
+        self.write(if xbus { SP_RDLEN } else { SP_WRLEN }, word);
+        while self.random.once_in(2) {
+            self.run();
+            self.steer();
+        }
+        self.run();
     }
 
     /// Where a list starts; with XBUS also near the end of DMEM, and above it.

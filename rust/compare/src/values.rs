@@ -227,7 +227,7 @@ fn outside(random: &mut Random) -> u32 {
 /// A kind that no record has.
 pub fn unknown_kind(random: &mut Random) -> u8 {
     match random.below(256) as u8 {
-        1..=9 => random.pick(&[0, 10, 0x81, 255]),
+        1..=10 => random.pick(&[0, 11, 0x81, 0x8A, 255]),
         kind => kind,
     }
 }

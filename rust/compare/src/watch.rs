@@ -1,14 +1,23 @@
 //! Goes through a recording on the model turn by turn, and counts what happens in it.
 
 use crate::events::{Event, Events};
+use crate::fields::from_model;
 use crate::memory::BANK;
+use crate::runs::shares;
 use crate::values::first_copy;
 use model::calls::{self, State};
 use model::machine::*;
 use model::recording::Record;
 
-/// The bytes of output of a replay's DP run.
-const OUTPUT_WORDS: u32 = 256;
+/// The words that the output of a replay's run has room for.
+const OUTPUT_WORDS: usize = 256;
+
+/// What the turns of a run gave: how many words the SP moved, and those that the DP handed out.
+#[derive(Default)]
+struct Rounds {
+    moved: u32,
+    words: Vec<u64>,
+}
 
 /// A state and memories of the model, and what was seen of them.
 pub struct Watch {
@@ -17,6 +26,8 @@ pub struct Watch {
     pub dmem: Vec<u8>,
     pub imem: Vec<u8>,
     pub events: Events,
+    /// The order of a run's turns decided though they shared no byte, which must never be.
+    pub unforeseen: bool,
 }
 
 impl Watch {
@@ -28,6 +39,7 @@ impl Watch {
             dmem,
             imem,
             events: Events::default(),
+            unforeseen: false,
         }
     }
 
@@ -38,6 +50,10 @@ impl Watch {
             Record::Read { address, expected } => self.read(address, expected),
             Record::SpRun { budget } => self.sp_run(budget),
             Record::DpRun { budget } => self.dp_run(budget),
+            Record::Run {
+                sp_budget,
+                dp_budget,
+            } => self.run(sp_budget, dp_budget),
             Record::Tick { n } => self.tick(n),
             Record::Break => {
                 self.events
@@ -167,13 +183,79 @@ impl Watch {
     fn sp_run(&mut self, budget: u32) {
         self.budget(budget);
         self.events.see_if(self.state.sp.busy == 0, Event::IdleRun);
-        let mut moved = 0;
-        while moved < budget && self.state.sp.busy == 1 && self.sp_turn() {
-            moved += 1;
-        }
+        let moved = self.rounds(budget, 0).moved;
         let idle = self.state.sp.busy == 0;
         self.events.see_if(idle && moved > 0, Event::IdleStop);
         self.events.see_if(!idle, Event::BudgetStop);
+    }
+
+    fn dp_run(&mut self, budget: u32) {
+        self.budget(budget);
+        let words = self.rounds(0, budget).words;
+        let (frozen, full) = self.stops(budget, words.len());
+        self.events.see_if(frozen, Event::FrozenStop);
+        self.events.see_if(full, Event::OutputStop);
+    }
+
+    /// Is the list frozen, and did the output end the run?
+    fn stops(&self, budget: u32, words: usize) -> (bool, bool) {
+        let dp = &self.state.dp;
+        let more = dp.current < dp.limit;
+        let full = words == OUTPUT_WORDS && budget as usize > OUTPUT_WORDS;
+        (more && dp.freeze == 1, more && dp.freeze == 0 && full)
+    }
+
+    fn run(&mut self, sp_budget: u32, dp_budget: u32) {
+        self.events.see(Event::MergedRun);
+        let zero = sp_budget == 0 || dp_budget == 0;
+        self.events.see_if(zero, Event::MergedZeroBudget);
+        let before = self.state;
+        let sp_first = self.sp_first(sp_budget, dp_budget);
+        let Rounds { moved, words } = self.rounds(sp_budget, dp_budget);
+        let (frozen, full) = self.stops(dp_budget, words.len());
+        let events = &mut self.events;
+        events.see_if(frozen, Event::MergedFrozen);
+        events.see_if(full, Event::MergedOutputStop);
+        if moved == 0 || words.is_empty() {
+            return;
+        }
+        events.see_if((moved as usize) < words.len(), Event::SpEndedFirst);
+        events.see_if(moved as usize > words.len(), Event::DpEndedFirst);
+        let shares = shares(&from_model(&before), self.rdram.len());
+        let decided = sp_first != (self.state, words);
+        events.see_if(!shares, Event::OtherBytes);
+        events.see_if(shares, Event::SameBytes);
+        events.see_if(decided, Event::OrderDecided);
+        self.unforeseen |= decided && !shares;
+    }
+
+    /// The state and the words if all SP turns came before the DP's. The memories would be the same, for the DP writes nothing.
+    fn sp_first(&self, sp_budget: u32, dp_budget: u32) -> (State, Vec<u64>) {
+        let mut watch = Watch {
+            events: Events::default(),
+            rdram: self.rdram.clone(),
+            dmem: self.dmem.clone(),
+            imem: self.imem.clone(),
+            ..*self
+        };
+        watch.rounds(sp_budget, 0);
+        let words = watch.rounds(0, dp_budget).words;
+        (watch.state, words)
+    }
+
+    /// The turns of a run, round by round.
+    fn rounds(&mut self, sp_budget: u32, dp_budget: u32) -> Rounds {
+        let mut done = Rounds::default();
+        loop {
+            let sp = done.moved < sp_budget && self.state.sp.busy == 1 && self.sp_turn();
+            done.moved += u32::from(sp);
+            let room = done.words.len() < OUTPUT_WORDS.min(dp_budget as usize);
+            let word = if room { self.dp_turn() } else { None };
+            done.words.extend(word);
+            if !sp && word.is_none() {
+                return done;
+            }
+        }
     }
 
     /// One SP turn with a word to move; whether it moved it.
@@ -201,27 +283,13 @@ impl Watch {
         outcome.answer.count == 1
     }
 
-    fn dp_run(&mut self, budget: u32) {
-        self.budget(budget);
-        let mut handed = 0;
-        while handed < budget && handed < OUTPUT_WORDS && self.dp_turn() {
-            handed += 1;
-        }
-        let dp = &self.state.dp;
-        let more = dp.current < dp.limit;
-        let frozen = more && dp.freeze == 1;
-        let full = handed == OUTPUT_WORDS && budget > OUTPUT_WORDS && more && !frozen;
-        self.events.see_if(frozen, Event::FrozenStop);
-        self.events.see_if(full, Event::OutputStop);
-    }
-
-    /// One DP turn; whether it handed out a word.
-    fn dp_turn(&mut self) -> bool {
+    /// One DP turn, and the word that it handed out.
+    fn dp_turn(&mut self) -> Option<u64> {
         let before = self.state.dp;
         let outcome = calls::dp_turn(&self.state, &self.rdram, &self.dmem);
         self.state = outcome.state;
         if outcome.answer.count == 0 {
-            return false;
+            return None;
         }
         let first = (outcome.answer.value >> 56) as u8;
         let dmem = before.xbus == 1;
@@ -245,6 +313,6 @@ impl Watch {
         events.see_if(began, Event::WaitingListByTurn);
         let synced = before.wordsleft == 0 && sync;
         events.see_if(began && synced, Event::SyncFullFollowed);
-        true
+        Some(outcome.answer.value)
     }
 }

@@ -1,7 +1,7 @@
 //! Single calls, made of the library and of the model.
 
 use compare::call::{Call, Case};
-use compare::cases::{any_case, call_of, good_lengths, odd_lengths, ON_A_STATE};
+use compare::cases::{any_case, call_of, good_lengths, odd_lengths, ON_A_STATE, ON_MEMORY, RUN};
 use compare::comparison::Comparison;
 use compare::damage::{bad_address, bad_kind, exactly, flipped, LONGEST};
 use compare::fields::{field, FIELDS, FLAGS};
@@ -21,6 +21,7 @@ static ALL: Sum = Sum::of_tests(8);
 /// Prints the line of a test, and after the last one that of all.
 fn done(test: &str, totals: &Totals) {
     println!("{test}: {}", totals.calls_line());
+    assert_eq!(totals.runs.unforeseen, 0);
     if let Some(all) = ALL.add(totals) {
         println!("all single calls: {}", all.calls_line());
         assert!(all.compared >= 200_000);
@@ -158,7 +159,7 @@ fn turns_runs_and_looks() {
     for _ in 0..14_000 {
         let lent = good_lengths(&mut random);
         let state = sound(&mut random, lent.rdram);
-        for kind in 3..ON_A_STATE {
+        for kind in (3..ON_A_STATE).chain([RUN, RUN]) {
             let call = call_of(&mut random, kind, &state, lent.rdram);
             let case = Case { state, lent, call };
             let seen = comparison.check(&case);
@@ -175,6 +176,7 @@ fn turns_runs_and_looks() {
     assert!(pipe.iter().flatten().all(|seen| *seen >= 3), "{pipe:?}");
     assert!(moved >= 3_000 && handed >= 3_000 && found >= 2_000);
     println!("turns, runs and looks: {moved} SP turns moved a word, {handed} DP turns handed one out, {found} looks found one");
+    println!("their runs: {}", comparison.totals.runs.line());
     done("turns, runs and looks", &comparison.totals);
 }
 
@@ -217,17 +219,10 @@ fn unsound_states() {
         }
     }
     every_flag_byte(&mut comparison, &mut random);
-    for call in [
-        "read_register",
-        "tick",
-        "sp_break",
-        "acknowledge",
-        "sp_turn",
-        "sp_run",
-    ] {
+    for call in ["read_register", "write_register", "tick", "sp_break"] {
         comparison.totals.expect_numbers(call, &[4], 1_000);
     }
-    for call in ["write_register", "dp_turn", "dp_run"] {
+    for call in ["acknowledge", "sp_turn", "dp_turn", "run"] {
         comparison.totals.expect_numbers(call, &[4], 1_000);
     }
     done("unsound states", &comparison.totals);
@@ -262,20 +257,17 @@ fn soundness_and_odd_lengths() {
             sound(&mut random, lent.rdram)
         };
         comparison.check(&plain(state, Call::IsSound));
-        let kind = 6 + random.place(5);
+        let kind = ON_MEMORY + random.place(ON_A_STATE - ON_MEMORY);
         let call = call_of(&mut random, kind, &state, lent.rdram);
         comparison.check(&Case { state, lent, call });
     }
     changed_fields(&mut comparison, &mut random);
     huge_memory(&mut comparison, &mut random);
-    for call in ["sp_turn", "sp_run"] {
-        comparison
-            .totals
-            .expect_numbers(call, &[0, 1, 2, 3, 4], 200);
+    let totals = &comparison.totals;
+    for call in ["sp_turn", "run"] {
+        totals.expect_numbers(call, &[0, 1, 2, 3, 4], 200);
     }
-    for call in ["dp_turn", "dp_run"] {
-        comparison.totals.expect_numbers(call, &[0, 1, 2, 4], 200);
-    }
+    totals.expect_numbers("dp_turn", &[0, 1, 2, 4], 200);
     done("soundness and odd lengths", &comparison.totals);
 }
 
@@ -298,7 +290,7 @@ fn changed_fields(comparison: &mut Comparison, random: &mut Random) {
 /// RDRAM of the longest length allowed, and of more. These are few, because each takes long.
 fn huge_memory(comparison: &mut Comparison, random: &mut Random) {
     for length in [LONGEST_RDRAM, LONGEST_RDRAM + 1, LONGEST_RDRAM + 8] {
-        for kind in 6..ON_A_STATE {
+        for kind in (ON_MEMORY..ON_A_STATE).chain([RUN]) {
             let lent = Lent::new(length, 3);
             let mut state = sound(random, length);
             (state.sp.ramaddr, state.dp.freeze) = (0xFF_FFF8, 0);

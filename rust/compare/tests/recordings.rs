@@ -13,7 +13,7 @@ use compare::seen::Seen;
 use compare::states::{break_clause, sound, unsound, BREAKS};
 use compare::totals::{Found, Sum, Totals};
 use compare::traffic::Traffic;
-use compare::values::edge_addresses;
+use compare::values::{edge_addresses, ADDRESS_BITS};
 use compare::verdicts::listed;
 use compare::watch::Watch;
 use model::machine::{command_length, DP_END, DP_START, DP_STATUS, SP_RDLEN, SP_WRLEN};
@@ -103,6 +103,7 @@ fn agrees(seen: &Seen, watch: &Watch) {
     assert_eq!(seen.outcome.state, from_model(&watch.state));
     let [rdram, dmem, imem, ..] = &seen.bytes;
     assert!((rdram, dmem, imem) == (&watch.rdram, &watch.dmem, &watch.imem));
+    assert!(!watch.unforeseen);
 }
 
 /// Compares traffic from states of one kind, and counts its events.
@@ -297,7 +298,7 @@ fn expect_damage(totals: &Totals) {
 /// Each of the 256 kinds after one good record, with the bytes of the longest body and with none.
 fn every_kind(comparison: &mut Comparison) {
     for kind in 0..=255 {
-        for body in [0, 4, 12, 30] {
+        for body in [0, 4, 7, 8, 12, 30] {
             let mut recording = vec![6, kind];
             recording.extend(vec![0; body]);
             let lent = Lent::new(8, 1);
@@ -399,20 +400,28 @@ fn every_room(comparison: &mut Comparison, random: &mut Random) {
     }
 }
 
-/// The transfer of 131,072 words, with another one of as many that waits, and one budget for both.
-fn giant(length: u32, first: u32, second: u32) -> Vec<u8> {
-    let writes = [first, second].map(|address| Record::Write {
-        address,
-        value: length,
-    });
-    let run = Record::SpRun { budget: u32::MAX };
+/// The transfer of 131,072 words, with another one of as many that waits, and one budget for both; a list over all of RDRAM.
+fn giant(length: u32, first: u32, second: u32, run: Record) -> Vec<u8> {
+    let values = [(first, length), (second, length), (DP_END, ADDRESS_BITS)];
+    let mut records = values
+        .map(|(address, value)| Record::Write { address, value })
+        .to_vec();
     let read = Record::Read {
         address: first,
         expected: 0,
     };
-    let records = [writes[0], writes[1], run, read];
+    records.extend([run, read]);
     records.iter().flat_map(Record::encode).collect()
 }
+
+/// A run of the SP, and one of both engines.
+const WHOLE_RUNS: [Record; 2] = [
+    Record::SpRun { budget: u32::MAX },
+    Record::Run {
+        sp_budget: u32::MAX,
+        dp_budget: u32::MAX,
+    },
+];
 
 /// A recording with a long listing: so many reads and checks that all differ.
 fn long_listing(reads: usize, checks: usize) -> Vec<u8> {
@@ -446,14 +455,16 @@ fn giants() {
     let state = ofersky::power_up();
     for (length, rdram) in [(u32::MAX, 32_768), (0x000F_FFF8, 0), (0xFF8F_FFF8, 1 << 21)] {
         for (first, second) in [(SP_RDLEN, SP_WRLEN), (SP_WRLEN, SP_RDLEN)] {
-            let lent = Lent::new(rdram, 9);
-            let recording = giant(length, first, second);
-            check(&mut comparison, &case(state, lent, recording, 4_000));
+            for run in WHOLE_RUNS {
+                let lent = Lent::new(rdram, 9);
+                let recording = giant(length, first, second, run);
+                check(&mut comparison, &case(state, lent, recording, 4_000));
+            }
         }
     }
     for rdram in [LONGEST_RDRAM, LONGEST_RDRAM + 1, LONGEST_RDRAM + 8] {
         let lent = Lent::new(rdram, 5);
-        let recording = giant(0x0F, SP_RDLEN, SP_WRLEN);
+        let recording = giant(0x0F, SP_RDLEN, SP_WRLEN, WHOLE_RUNS[1]);
         check(&mut comparison, &case(state, lent, recording, 4_000));
     }
     for (recording, written) in longest_listings().into_iter().zip([69_188, 69_191]) {

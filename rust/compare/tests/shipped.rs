@@ -10,7 +10,7 @@ const BANK: usize = 4_096;
 
 /// The verdict of each recording, counted in its listing: the `R` and `L` lines, and those with `expected`. The index and the place are those of the
 /// first record with such a line.
-const VERDICTS: [(&str, Verdict); 31] = [
+const VERDICTS: [(&str, Verdict); 36] = [
     ("bank_wrap", passed(13)),
     ("double_buffer", passed(16)),
     ("empty", Verdict::NothingCompared),
@@ -18,7 +18,12 @@ const VERDICTS: [(&str, Verdict); 31] = [
     ("long_11", differs(463, 67, 84, 800)),
     ("long_138", differs(445, 62, 103, 979)),
     ("long_17", differs(475, 68, 88, 832)),
+    ("long_merged_505", differs(400, 53, 78, 774)),
     ("longest", Verdict::NothingCompared),
+    ("merged_budgets", passed(9)),
+    ("merged_order", passed(5)),
+    ("merged_room", passed(6)),
+    ("merged_run", passed(10)),
     ("mirrors", differs(13, 1, 14, 126)),
     ("mismatch", differs(9, 7, 0, 0)),
     ("past_length", passed(11)),

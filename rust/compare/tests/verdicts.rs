@@ -150,7 +150,7 @@ fn expected(number: u32, found: Findings) -> Verdict {
 fn recordings_with_known_expectations() {
     let mut random = Random::of_test(62);
     let mut comparison = Comparison::new("recording");
-    for _ in 0..12_000 {
+    for _ in 0..15_000 {
         let lent = Lent::new(4_096, random.below(1 << 16));
         let state = match random.below(2) {
             0 => ofersky::power_up(),

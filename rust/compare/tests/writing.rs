@@ -43,7 +43,7 @@ struct Edge {
 struct Writer {
     comparison: Comparison,
     /// Records written, by kind.
-    written: [u64; 10],
+    written: [u64; 11],
     edges: [Edge; 2],
 }
 
@@ -51,7 +51,7 @@ impl Writer {
     fn new() -> Writer {
         Writer {
             comparison: Comparison::new("call"),
-            written: [0; 10],
+            written: [0; 11],
             edges: [Edge::default(); 2],
         }
     }
@@ -125,6 +125,7 @@ fn fields(item: Record) -> Record {
         1 | 2 => (item.value & 0xFFFF_FFFF, item.address),
         3..=5 => (item.value & 0xFFFF_FFFF, 0),
         6 | 7 => (0, 0),
+        10 => (item.value, 0),
         _ => (item.value, item.address),
     };
     Record {
@@ -138,7 +139,7 @@ fn fields(item: Record) -> Record {
 fn any_records() {
     let mut random = Random::of_test(41);
     let mut writer = Writer::new();
-    for _ in 0..100_000 {
+    for _ in 0..120_000 {
         let item = any_item(&mut random);
         let buffer = filled(buffer_length(&mut random), random.below(1 << 16));
         let place = place_for(&mut random, item.kind, buffer.len());
@@ -167,7 +168,7 @@ fn places_kinds_and_addresses() {
     for length in (0..30).chain(long) {
         let buffer = filled(length, 1 + random.below(1 << 16));
         for place in places(length) {
-            for kind in 1..=9 {
+            for kind in 1..=10 {
                 let item = good_item(&mut random, kind);
                 writer.write(item, &buffer, place);
             }
@@ -212,7 +213,7 @@ fn every_kind(writer: &mut Writer, random: &mut Random) {
 /// The addresses at the edges of the blocks, with just enough room and with one byte less.
 fn every_address(writer: &mut Writer, random: &mut Random) {
     for address in edge_addresses() {
-        for kind in [1, 2, 3, 7, 8, 9] {
+        for kind in [1, 2, 3, 7, 8, 9, 10] {
             let item = Record {
                 address,
                 ..good_item(random, kind)

@@ -8,8 +8,8 @@ use compare::items::{any_item, buffer_length, place_for};
 use compare::memory::{filled, Lent};
 use compare::random::Random;
 use compare::records::pieces;
-use compare::seen::{model, Seen};
-use compare::states::sound;
+use compare::seen::{model, sp_first, Seen};
+use compare::states::{both_busy, sound};
 use compare::traffic::Traffic;
 use compare::values::not_register;
 use compare::verdicts::any_replayed;
@@ -33,7 +33,7 @@ fn sync_full_by_the_whole_byte(case: &Case) -> Seen {
     let mut seen = model(case);
     let [.., output, _] = &seen.bytes;
     let whole = output.chunks(8).next().is_some_and(|word| word[0] == 0xE9);
-    if case.state.dp.wordsleft == 0 && seen.outcome.answer.count > 0 && whole {
+    if case.state.dp.wordsleft == 0 && seen.words > 0 && whole {
         seen.outcome.state.dp.line = case.state.dp.line;
     }
     seen
@@ -118,6 +118,19 @@ fn clears_the_next_byte(case: &Case) -> Seen {
     seen
 }
 
+/// A run in which the DP waits until the SP has taken all its turns.
+fn all_sp_turns_first(case: &Case) -> Seen {
+    sp_first(case)
+}
+
+/// The words that the DP handed out given as the SP's count, and the reverse.
+fn counts_exchanged(case: &Case) -> Seen {
+    let mut seen = model(case);
+    let count = &mut seen.outcome.answer.count;
+    (*count, seen.words) = (seen.words, *count);
+    seen
+}
+
 /// What is reported of a wrong side, over cases that are made in order.
 fn reported(wrong: fn(&Case) -> Seen, noun: &'static str, make: fn(&mut Random) -> Case) -> String {
     let result = catch_unwind(AssertUnwindSafe(|| {
@@ -169,11 +182,11 @@ fn bad_read(random: &mut Random) -> Case {
     Case { state, lent, call }
 }
 
-fn dp_run(random: &mut Random) -> Case {
-    let state = sound(random, 4_096);
+fn run(random: &mut Random) -> Case {
+    let state = both_busy(random, 4_096);
     let lent = Lent::new(4_096, random.below(1_000) + 1);
-    let (budget, out) = (random.word(), 64);
-    let call = Call::DpRun { budget, out };
+    let budgets = [random.word(), random.word()];
+    let call = Call::Run { budgets, out: 64 };
     Case { state, lent, call }
 }
 
@@ -206,14 +219,14 @@ fn shown_recording(report: &str) -> Vec<u8> {
     (0..hex.len() / 2).map(byte).collect()
 }
 
-/// The reports of these ten, with the panic's own message kept off the screen.
-fn reports() -> [String; 10] {
+/// The reports of these twelve, with the panic's own message kept off the screen.
+fn reports() -> [String; 12] {
     let hook = take_hook();
     set_hook(Box::new(|_| {}));
     let reports = [
         reported(skip_after_the_last_row, "recording", recording),
         reported(no_last_line_end, "recording", recording),
-        reported(sync_full_by_the_whole_byte, "call", dp_run),
+        reported(sync_full_by_the_whole_byte, "call", run),
         reported(writes_before_it_declines, "call", sp_turn),
         reported(no_room_for_the_last_byte, "call", write_record),
         reported(clears_the_next_byte, "call", write_record),
@@ -221,6 +234,8 @@ fn reports() -> [String; 10] {
         reported(misaligned_refused_by_5, "call", bad_read),
         reported(drops_findings_of_a_stop, "recording", stopped_recording),
         reported(passes_on_nothing, "call", verdict),
+        reported(all_sp_turns_first, "call", run),
+        reported(counts_exchanged, "call", run),
     ];
     set_hook(hook);
     for report in &reports {
@@ -231,7 +246,7 @@ fn reports() -> [String; 10] {
 
 #[test]
 fn wrong_sides_are_found() {
-    let [skip, line_end, framing, declined, room, next_byte, place, number, found, pass] =
+    let [skip, line_end, framing, declined, room, next_byte, place, number, found, pass, order, counts] =
         reports();
 
     let shortest = shown_recording(&skip);
@@ -244,7 +259,7 @@ fn wrong_sides_are_found() {
     assert!(line_end.contains("\n  written: expected 0x"));
 
     assert!(framing.starts_with("difference at call "));
-    assert!(framing.contains("dp_run, budget 0x1, output of 8 bytes\n"));
+    assert!(framing.contains("run, SP budget 0x0, DP budget 0x1, output of 8 bytes\n"));
     assert!(framing.contains("\n  dp.line: expected 0x1 by the model, given 0x0 by the library"));
 
     assert!(declined.contains("state: as at power-up\n"));
@@ -261,6 +276,15 @@ fn wrong_sides_are_found() {
     assert!(number.contains("\n  number: expected 0xA by the model, given 0x5 by the library"));
     dropped_findings_are_found(&found);
     judged_struct_is_found(&pass);
+    wrong_runs_are_found(&order, &counts);
+}
+
+/// Two SP turns show that the DP's first did not come between them. One turn shows which engine's a count is.
+fn wrong_runs_are_found(order: &str, counts: &str) {
+    assert!(order.contains("run, SP budget 0x2, DP budget 0x1, output of 8 bytes\n"));
+    assert!(order.contains("\n  output at 0x0: expected "));
+    assert!(counts.contains("\n  count: expected 0x"));
+    assert!(counts.contains("\n  words: expected 0x"));
 }
 
 /// What was compared before the stop is all that differs: one read or check suffices.

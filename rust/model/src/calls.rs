@@ -89,6 +89,13 @@ pub struct Outcome {
     pub answer: Answer,
 }
 
+/// A run's outcome, whose count is the SP's, and the DP's count.
+#[derive(Clone, Copy, Debug, Default, PartialEq, Eq)]
+pub struct Ran {
+    pub outcome: Outcome,
+    pub words: u32,
+}
+
 /// A part of a lent memory: 0 is RDRAM, 1 is DMEM. It has 8 bytes, or none
 /// and then offset 0.
 #[derive(Clone, Copy, Debug, Default, PartialEq, Eq)]
@@ -322,7 +329,7 @@ fn with_all<'a>(
     machine(state, rdram, dmem, imem)
 }
 
-/// A machine for the DP calls and the look, which take no IMEM.
+/// A machine for the DP turn and the look, which take no IMEM.
 fn without_imem<'a>(
     state: &State,
     rdram: &'a [u8],
@@ -411,21 +418,6 @@ pub fn sp_turn(state: &State, rdram: &mut [u8], dmem: &mut [u8], imem: &mut [u8]
     outcome(state, done)
 }
 
-/// An SP run. The count is the number of words moved.
-pub fn sp_run(
-    state: &State,
-    budget: u32,
-    rdram: &mut [u8],
-    dmem: &mut [u8],
-    imem: &mut [u8],
-) -> Outcome {
-    let done = with_all(state, rdram, dmem, imem).map(|mut machine| {
-        let count = machine.sp_run(budget);
-        (state_of(&machine), 0, count)
-    });
-    outcome(state, done)
-}
-
 /// One DP turn. The value is the word handed out, and the count is 1 if there
 /// was one.
 pub fn dp_turn(state: &State, rdram: &[u8], dmem: &[u8]) -> Outcome {
@@ -440,13 +432,27 @@ pub fn dp_turn(state: &State, rdram: &[u8], dmem: &[u8]) -> Outcome {
     outcome(state, done)
 }
 
-/// A DP run. The words stand in `out`, and the count is their number.
-pub fn dp_run(state: &State, budget: u32, rdram: &[u8], dmem: &[u8], out: &mut [u8]) -> Outcome {
-    let done = without_imem(state, rdram, dmem).map(|mut machine| {
-        let count = machine.dp_run(budget, out);
-        (state_of(&machine), 0, count)
+/// A run of both engines by turns. The outcome's count is the number of words
+/// that the SP moved; `words` are those that the DP handed out into `out`.
+pub fn run(
+    state: &State,
+    sp_budget: u32,
+    dp_budget: u32,
+    rdram: &mut [u8],
+    dmem: &mut [u8],
+    imem: &mut [u8],
+    out: &mut [u8],
+) -> Ran {
+    let mut words = 0;
+    let done = with_all(state, rdram, dmem, imem).map(|mut machine| {
+        let counts = machine.run(sp_budget, dp_budget, out);
+        words = counts.handed;
+        (state_of(&machine), 0, counts.moved)
     });
-    outcome(state, done)
+    Ran {
+        outcome: outcome(state, done),
+        words,
+    }
 }
 
 /// Where the next drawing word stands. An empty part is at the start of the
@@ -490,6 +496,10 @@ fn fields(record: Record) -> (u8, u32, u64) {
         Record::Acknowledge => (7, 0, 0),
         Record::Store { address, word } => (8, address, word),
         Record::Check { address, expected } => (9, address, expected),
+        Record::Run {
+            sp_budget,
+            dp_budget,
+        } => (10, 0, u64::from(sp_budget) << 32 | u64::from(dp_budget)),
     }
 }
 

@@ -156,6 +156,14 @@ pub struct Machine<M = Vec<u8>> {
     pub imem: M,
 }
 
+/// How many words a run took: those that the SP moved, and those that the DP
+/// handed out.
+#[derive(Clone, Copy, Debug, Default, PartialEq, Eq)]
+pub struct Counts {
+    pub moved: u32,
+    pub handed: u32,
+}
+
 /// Is this bit of a number on?
 fn bit(value: u32, number: u32) -> bool {
     value >> number & 1 == 1
@@ -545,14 +553,38 @@ impl<M: DerefMut<Target = [u8]>> Machine<M> {
         }
     }
 
-    /// SP turns until the budget is used or the engine is idle. Gives the
-    /// number of words moved.
-    pub fn sp_run(&mut self, budget: u32) -> u32 {
-        let mut moved = 0;
-        while moved < budget && self.sp.busy {
-            moved += self.sp_turn();
+    /// SP turn, DP turn, SP turn and so on. An engine whose turn would do
+    /// nothing is passed over, and so is one whose budget is used, and the DP
+    /// where the output has no room. The run ends with the round in which both
+    /// are. Words stand in the output from its start; its rest is untouched.
+    pub fn run(&mut self, sp_budget: u32, dp_budget: u32, output: &mut [u8]) -> Counts {
+        let mut done = Counts::default();
+        loop {
+            let before = done;
+            if done.moved < sp_budget {
+                done.moved += self.sp_turn();
+            }
+            if done.handed < dp_budget {
+                let room = output.chunks_exact_mut(8).nth(done.handed as usize);
+                done.handed += self.dp_turn_into(room);
+            }
+            if done == before {
+                return done;
+            }
         }
-        moved
+    }
+
+    /// One DP turn whose word goes into this room. Without room there is no
+    /// turn. Gives 1 if it put out a word.
+    fn dp_turn_into(&mut self, room: Option<&mut [u8]>) -> u32 {
+        let Some(room) = room else {
+            return 0;
+        };
+        let Some(word) = self.dp_turn() else {
+            return 0;
+        };
+        room.copy_from_slice(&word.to_be_bytes());
+        1
     }
 }
 
@@ -575,21 +607,5 @@ impl<M: Deref<Target = [u8]>> Machine<M> {
             self.dp.start_list();
         }
         Some(word)
-    }
-
-    /// DP turns until the budget is used, nothing runs, the engine is frozen
-    /// or the output has no room. Gives the number of words put out; the rest
-    /// of the output is untouched.
-    pub fn dp_run(&mut self, budget: u32, output: &mut [u8]) -> u32 {
-        let mut handed = 0;
-        while handed < budget && output.len() - 8 * handed as usize >= 8 {
-            let Some(word) = self.dp_turn() else {
-                break;
-            };
-            let first = 8 * handed as usize;
-            output[first..first + 8].copy_from_slice(&word.to_be_bytes());
-            handed += 1;
-        }
-        handed
     }
 }

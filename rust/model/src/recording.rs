@@ -1,12 +1,12 @@
 //! Recordings: their records, the writing and the replay of them, and the
 //! listing.
 
-use crate::machine::{check_register, load_word, store_word, Machine, BANK_BYTES};
+use crate::machine::{check_register, load_word, store_word, Counts, Machine, BANK_BYTES};
 use std::ops::{Deref, DerefMut};
 
 /// The number for a memory record whose address is not allowed.
 pub const ADDRESS_NOT_ALLOWED: u32 = 6;
-/// The number for a kind that is none of 1 to 9.
+/// The number for a kind that is none of 1 to 10.
 pub const UNKNOWN_KIND: u32 = 7;
 /// The number for a record that the recording ends within.
 pub const CUT_SHORT: u32 = 8;
@@ -19,7 +19,7 @@ pub const DOES_NOT_FIT: u32 = 14;
 pub const LONGEST: usize = 16_383;
 /// RDRAM of the replay program.
 pub const RDRAM_BYTES: usize = 32_768;
-/// Output of each DP run in the replay program.
+/// Output of each run in the replay program.
 pub const OUTPUT_BYTES: usize = 2_048;
 
 /// The first address past those allowed for RDRAM in kinds 8 and 9.
@@ -28,7 +28,7 @@ const DMEM_BASE: u32 = 0x0400_0000;
 const IMEM_BASE: u32 = DMEM_BASE + BANK_BYTES;
 const BANKS_END: u32 = IMEM_BASE + BANK_BYTES;
 
-/// One record, in the order of the kinds 1 to 9. An address is kept as recorded,
+/// One record, in the order of the kinds 1 to 10. An address is kept as recorded,
 /// be it a register's first one or a mirror's.
 #[derive(Clone, Copy, Debug, PartialEq, Eq)]
 pub enum Record {
@@ -41,6 +41,7 @@ pub enum Record {
     Acknowledge,
     Store { address: u32, word: u64 },
     Check { address: u32, expected: u64 },
+    Run { sp_budget: u32, dp_budget: u32 },
 }
 
 /// What a replay leaves behind beside the machine.
@@ -93,7 +94,16 @@ fn body_length(kind: u8) -> Option<usize> {
         3..=5 => Some(4),
         6 | 7 => Some(0),
         8 | 9 => Some(12),
+        10 => Some(8),
         _ => None,
+    }
+}
+
+/// The bytes that an address takes at the start of a body.
+fn address_length(kind: u8) -> usize {
+    match kind {
+        1 | 2 | 8 | 9 => 4,
+        _ => 0,
     }
 }
 
@@ -106,7 +116,8 @@ fn number(bytes: &[u8]) -> u64 {
 
 impl Record {
     /// The record of a kind and its fields. A field that the kind does not have
-    /// plays no part; a value of kinds 1 to 5 has 32 bits.
+    /// plays no part; a value of kinds 1 to 5 has 32 bits. The two halves of
+    /// kind 10's value are the SP's budget and then the DP's.
     pub fn of(kind: u8, address: u32, value: u64) -> Result<Record, u32> {
         let low = value as u32;
         Ok(match kind {
@@ -131,6 +142,10 @@ impl Record {
                 address,
                 expected: value,
             },
+            10 => Record::Run {
+                sp_budget: (value >> 32) as u32,
+                dp_budget: low,
+            },
             _ => return Err(UNKNOWN_KIND),
         })
     }
@@ -141,8 +156,7 @@ impl Record {
         let kind = *bytes.first().ok_or(CUT_SHORT)?;
         let length = 1 + body_length(kind).ok_or(UNKNOWN_KIND)?;
         let body = bytes.get(1..length).ok_or(CUT_SHORT)?;
-        // A body of more than 4 bytes begins with an address.
-        let (address, value) = body.split_at(if body.len() > 4 { 4 } else { 0 });
+        let (address, value) = body.split_at(address_length(kind));
         let record = Record::of(kind, number(address) as u32, number(value))?;
         Ok((record, length))
     }
@@ -179,6 +193,10 @@ impl Record {
             Record::Check { address, expected } => {
                 [with(9, address), expected.to_be_bytes().to_vec()].concat()
             }
+            Record::Run {
+                sp_budget,
+                dp_budget,
+            } => [with(10, sp_budget), dp_budget.to_be_bytes().to_vec()].concat(),
         }
     }
 }
@@ -264,10 +282,28 @@ fn compared(letter: char, address: u32, digits: usize, found: u64, expected: u64
     }
 }
 
+/// The line of what the SP did in a run.
+fn sp_line(counts: Counts) -> String {
+    format!("S {:08X}\n", counts.moved)
+}
+
+/// The line of what the DP did in a run.
+fn dp_line(counts: Counts) -> String {
+    format!("D {:08X}\n", counts.handed)
+}
+
+/// A run of a replay. Its output is its own, and nobody looks at the words.
+fn run<M>(machine: &mut Machine<M>, sp_budget: u32, dp_budget: u32) -> Counts
+where
+    M: DerefMut<Target = [u8]>,
+{
+    machine.run(sp_budget, dp_budget, &mut [0; OUTPUT_BYTES])
+}
+
 /// What is seen of a record that was done.
 #[derive(Clone, Debug, Default, PartialEq, Eq)]
 pub struct Done {
-    /// Its part of the listing, which may be empty.
+    /// Its part of the listing, which may be empty or two lines.
     pub line: String,
     /// Of a read or a check: whether it found what it expects.
     pub as_expected: Option<bool>,
@@ -287,10 +323,14 @@ where
             line = compared('R', address, 8, found.into(), expected.into());
             as_expected = Some(found == expected);
         }
-        Record::SpRun { budget } => line = format!("S {:08X}\n", machine.sp_run(budget)),
-        Record::DpRun { budget } => {
-            let mut output = [0; OUTPUT_BYTES];
-            line = format!("D {:08X}\n", machine.dp_run(budget, &mut output));
+        Record::SpRun { budget } => line = sp_line(run(machine, budget, 0)),
+        Record::DpRun { budget } => line = dp_line(run(machine, 0, budget)),
+        Record::Run {
+            sp_budget,
+            dp_budget,
+        } => {
+            let counts = run(machine, sp_budget, dp_budget);
+            line = sp_line(counts) + &dp_line(counts);
         }
         Record::Tick { n } => machine.tick(n),
         Record::Break => machine.break_(),

@@ -262,11 +262,11 @@ fn a_run_is_its_turns() {
         let moved = budget.min(9 + 8);
         turned.sp_turns(moved);
         let mut run = bench.clone();
-        assert_eq!(run.sp_run(budget), success(0, moved));
+        assert_eq!(run.run_sp(budget), success(0, moved));
         assert!(run == turned, "{budget}");
     }
     let before = bench.clone();
-    assert_eq!(bench.sp_run(9), success(0, 9));
+    assert_eq!(bench.run_sp(9), success(0, 9));
     assert!(bench.rdram == before.rdram && bench.dmem == before.dmem);
     // Words 0 to 2 of row 0 stand in RDRAM at 0xFFC0, at the bank's end.
     assert_eq!(bench.imem[0xFE0..0xFF8], before.rdram[0xFFC0..0xFFD8]);
@@ -288,7 +288,7 @@ fn a_store_takes_its_words_from_the_bank_by_rows() {
     expected[0x100..0x110].copy_from_slice(&before.dmem[0xFF0..]);
     expected[0x110..0x120].copy_from_slice(&before.dmem[..0x10]);
     expected[0x128..0x148].copy_from_slice(&before.dmem[0x10..0x30]);
-    assert_eq!(bench.sp_run(u32::MAX), success(0, 8));
+    assert_eq!(bench.run_sp(u32::MAX), success(0, 8));
     assert!(bench.rdram == expected);
     assert!(bench.dmem == before.dmem && bench.imem == before.imem);
     // No SKIP follows the last row.
@@ -311,7 +311,7 @@ fn a_store_past_the_lent_length_counts_and_is_dropped() {
 
 /// The output may have any length; whole words only are written.
 #[test]
-fn a_dp_run_writes_whole_words_and_leaves_the_rest() {
+fn a_run_of_the_dp_writes_whole_words_and_leaves_the_rest() {
     let mut bench = Bench::new();
     bench.fill();
     bench.writes(&[(DP_START, 0x4000), (DP_END, 0x4028)]);
@@ -328,7 +328,7 @@ fn a_dp_run_writes_whole_words_and_leaves_the_rest() {
     ] {
         let mut run = bench.clone();
         let mut out = vec![0x55; length];
-        assert_eq!(run.dp_run(budget, &mut out), success(0, words));
+        assert_eq!(run.run_dp(budget, &mut out), words);
         let bytes = 8 * words as usize;
         assert_eq!(out[..bytes], bench.rdram[0x4000..0x4000 + bytes]);
         assert!(out[bytes..].iter().all(|byte| *byte == 0x55));
@@ -341,17 +341,17 @@ fn a_dp_run_writes_whole_words_and_leaves_the_rest() {
 }
 
 #[test]
-fn a_dp_run_goes_on_into_the_waiting_list_and_stops_when_frozen() {
+fn a_run_of_the_dp_goes_on_into_the_waiting_list_and_stops_when_frozen() {
     let mut bench = Bench::new();
     bench.fill();
     bench.writes(&[(DP_START, 0x4000), (DP_END, 0x4010)]);
     bench.writes(&[(DP_START, 0x1FF8), (DP_END, 0x2008)]);
     bench.writes(&[(DP_STATUS, 0x0A)]);
     let mut out = [0x55; 40];
-    assert_eq!(bench.dp_run(u32::MAX, &mut out), success(0, 0));
+    assert_eq!(bench.run_dp(u32::MAX, &mut out), 0);
     assert_eq!(out, [0x55; 40]);
     bench.writes(&[(DP_STATUS, 0x04)]);
-    assert_eq!(bench.dp_run(u32::MAX, &mut out), success(0, 4));
+    assert_eq!(bench.run_dp(u32::MAX, &mut out), 4);
     // With XBUS, the words are those of DMEM by the low 12 bits.
     let expected = [
         &bench.dmem[..0x10],
@@ -720,10 +720,13 @@ fn every_call_on_a_sound_state_leaves_a_sound_one() {
         bench.took(acknowledge(&state), success(0, 0));
         bench.state = state;
         assert_eq!(bench.sp_turn(), success(0, state.sp.busy.into()));
-        assert_eq!(bench.sp_run(value % 64).number, 0);
+        assert_eq!(bench.run_sp(value % 64).number, 0);
         bench.state = state;
         let runs = state.dp.current < state.dp.limit && state.dp.freeze == 0;
         assert_eq!(bench.dp_turn().count, u32::from(runs));
-        assert_eq!(bench.dp_run(value % 64, &mut [0; 400]).number, 0);
+        bench.run_dp(value % 64, &mut [0; 400]);
+        bench.state = state;
+        let (answer, _) = bench.run(value % 64, value / 64 % 64, &mut [0; 400]);
+        assert_eq!(answer.number, 0);
     }
 }

@@ -84,7 +84,8 @@ fn m3_ninety_six_turns_end_it() {
 fn m4_the_longest_load() {
     let mut machine = power_up();
     writes(&mut machine, &[(SP_RDLEN, 0xFFFF_FFFF)]);
-    assert_eq!(machine.sp_run(0xFFFF_FFFF), 131_072);
+    let counts = machine.run(0xFFFF_FFFF, 0, &mut []);
+    assert_eq!((counts.moved, counts.handed), (131_072, 0));
     assert_eq!(reads(&mut machine, SP_RAMADDR), 0x1F_E808);
     assert_eq!(reads(&mut machine, SP_DMA_BUSY), 0);
 }
@@ -190,20 +191,22 @@ fn each_word_goes_where_the_formula_says() {
     }
     writes(&mut machine, &[(SP_SPADDR, start), (SP_RAMADDR, base)]);
     writes(&mut machine, &[(SP_RDLEN, skip << 20 | count << 12 | len)]);
-    assert_eq!(machine.sp_run(u32::MAX), (count + 1) * words);
+    let counts = machine.run(u32::MAX, 0, &mut []);
+    assert_eq!(counts.moved, (count + 1) * words);
     assert!(machine.imem == bank);
     assert!(machine.dmem.iter().all(|byte| *byte == 0));
 }
 
 #[test]
-fn a_dp_run_stops_at_the_room_and_leaves_the_rest() {
+fn a_run_of_the_dp_stops_at_the_room_and_leaves_the_rest() {
     let mut machine = power_up();
     writes(&mut machine, &[(DP_START, 0), (DP_END, 0x100)]);
     let mut output = [0x55; 23];
-    assert_eq!(machine.dp_run(u32::MAX, &mut output), 2);
+    let counts = machine.run(0, u32::MAX, &mut output);
+    assert_eq!((counts.moved, counts.handed), (0, 2));
     assert!(output[..16].iter().all(|byte| *byte == 0));
     assert!(output[16..].iter().all(|byte| *byte == 0x55));
-    assert_eq!(machine.dp_run(u32::MAX, &mut []), 0);
+    assert_eq!(machine.run(0, u32::MAX, &mut []).handed, 0);
 }
 
 /// Runs a program of this package with an input and gives its output.
@@ -402,18 +405,19 @@ fn refusal_7_is_for_each_unknown_kind() {
         let mut recording = vec![6, kind];
         recording.extend([0; 12]);
         let refused = listing(&recording) == "replay 1\nstop 1 7 1\n";
-        assert_eq!(refused, !(1..=9).contains(&kind), "{kind}");
+        assert_eq!(refused, !(1..=10).contains(&kind), "{kind}");
         // An unknown kind has no body that could be cut short.
         recording.truncate(2);
         let refused = listing(&recording) == "replay 1\nstop 1 7 1\n";
-        assert_eq!(refused, !(1..=9).contains(&kind), "{kind}");
+        assert_eq!(refused, !(1..=10).contains(&kind), "{kind}");
     }
 }
 
 #[test]
 fn refusal_8_comes_one_byte_before_the_whole() {
-    let bodies = [(1, 8), (2, 8), (3, 4), (4, 4), (5, 4), (8, 12), (9, 12)];
-    for (kind, body) in bodies {
+    let addressed = [(1, 8), (2, 8), (8, 12), (9, 12)];
+    let others = [(3, 4), (4, 4), (5, 4), (10, 8)];
+    for (kind, body) in addressed.into_iter().chain(others) {
         for length in 0..body {
             let mut recording = vec![6, 7, kind];
             // The address is misaligned and not allowed: 8 comes first.
@@ -428,6 +432,8 @@ fn refusal_8_comes_one_byte_before_the_whole() {
     }
     let whole = [&[6, 7, 9][..], &[0xFF; 12]].concat();
     assert_eq!(listing(&whole), "replay 1\nstop 2 6 2\n");
+    let whole = [&[6, 7, 10][..], &[0xFF; 8]].concat();
+    assert_eq!(listing(&whole), "replay 1\nS 00000000\nD 00000000\nend 3\n");
 }
 
 #[test]
@@ -463,19 +469,35 @@ fn a_replay_that_ends_gives_no_place() {
     }
 }
 
+/// The kinds of the records of a recording.
+fn kinds(recording: &[u8]) -> Vec<u8> {
+    let mut kinds = Vec::new();
+    let mut place = 0;
+    while place < recording.len() {
+        kinds.push(recording[place]);
+        place = record_at(recording, place).expect("a record").1;
+    }
+    kinds
+}
+
 /// Generated recordings are whole, within their length, and have both kinds
-/// of line; the sound states are seen to by the generator itself.
+/// of line; the sound states are seen to by the generator itself. Runs of both
+/// engines are in them exactly where they are asked for.
 #[test]
 fn generated_recordings_replay_to_their_end() {
     for seed in 1..=6 {
         let limit = 2_000 + 1_000 * seed;
-        let arguments = [seed.to_string(), limit.to_string()];
+        let arguments = [seed.to_string(), limit.to_string(), "merged".to_string()];
         let arguments = arguments.each_ref().map(String::as_str);
-        let recording = run_program(env!("CARGO_BIN_EXE_generate"), &arguments, &[]);
-        assert!(recording.len() <= limit && recording.len() + 13 > limit);
-        let outcome = replay(&mut power_up(), &recording);
-        assert_eq!(outcome.number, 0);
-        assert!(outcome.listing.contains(" ok\n"));
-        assert!(outcome.listing.contains(" expected "));
+        for arguments in [&arguments[..2], &arguments] {
+            let recording = run_program(env!("CARGO_BIN_EXE_generate"), arguments, &[]);
+            assert!(recording.len() <= limit && recording.len() + 13 > limit);
+            let outcome = replay(&mut power_up(), &recording);
+            assert_eq!(outcome.number, 0);
+            assert!(outcome.listing.contains(" ok\n"));
+            assert!(outcome.listing.contains(" expected "));
+            let merged = arguments.len() == 3;
+            assert_eq!(kinds(&recording).contains(&10), merged);
+        }
     }
 }

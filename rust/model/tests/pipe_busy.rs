@@ -278,7 +278,7 @@ fn a_turn_that_fetches_nothing_leaves_it_as_it_was() {
             let before = bench.clone();
             assert_eq!(bench.dp_turn(), success(0, 0));
             assert!(bench == before);
-            assert_eq!(bench.dp_run(u32::MAX, &mut [0; 64]), success(0, 0));
+            assert_eq!(bench.run_dp(u32::MAX, &mut [0; 64]), 0);
             assert!(bench == before);
         }
     }
@@ -294,10 +294,10 @@ fn a_run_leaves_what_its_last_word_left() {
             let count = words as u32;
             let mut bench = begun(pipebusy, &bytes);
             let mut cramped = bench.clone();
-            assert_eq!(bench.dp_run(count, &mut [0; 64]), success(0, count));
+            assert_eq!(bench.run_dp(count, &mut [0; 64]), count);
             assert_eq!(bench.state.dp.pipebusy, after, "{words}");
             let mut room = vec![0; 8 * words + 7];
-            assert_eq!(cramped.dp_run(u32::MAX, &mut room), success(0, count));
+            assert_eq!(cramped.run_dp(u32::MAX, &mut room), count);
             assert_eq!(cramped.state.dp.pipebusy, after, "{words}");
         }
     }
@@ -477,7 +477,7 @@ fn only_a_fetched_word_changes_it() {
             assert_eq!(outcome.state.dp.pipebusy, state.dp.pipebusy);
         }
         bench.state = state;
-        assert_eq!(bench.sp_run(value % 64).number, 0);
+        assert_eq!(bench.run_sp(value % 64).number, 0);
         assert_eq!(bench.state.dp.pipebusy, state.dp.pipebusy);
 
         bench.state = state;

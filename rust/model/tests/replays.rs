@@ -69,6 +69,8 @@ fn each_kind_has_its_fields() {
         (vec![7], 0, 0),
         (record(8, 0x0400_1FF8, &eight), 0x0400_1FF8, word),
         (record(9, 0x03EF_FFF8, &eight), 0x03EF_FFF8, word),
+        // The SP's budget is the upper half of the value.
+        ([&[10][..], &eight].concat(), 0, word),
     ];
     for (i, (bytes, address, value)) in kinds.into_iter().enumerate() {
         let kind = i as u8 + 1;
@@ -114,7 +116,7 @@ fn an_unknown_kind_comes_before_a_record_cut_short() {
         let number = read_record(&[kind], 0).number;
         let expected = match kind {
             6 | 7 => 0,
-            1..=9 => 8,
+            1..=10 => 8,
             _ => 7,
         };
         assert_eq!(number, expected, "{kind}");
@@ -139,13 +141,17 @@ fn a_record_cut_short_comes_before_its_address() {
             assert_eq!(read_record(&recording, 0), refusal(whole), "{kind}");
         }
     }
-    for kind in [3, 4, 5] {
+    // No address is looked at where there is none.
+    let low = u64::from(u32::MAX);
+    let others = [(3, 4, low), (4, 4, low), (5, 4, low), (10, 8, u64::MAX)];
+    for (kind, body, value) in others {
         let mut recording = vec![kind];
-        for _ in 0..4 {
+        for _ in 0..body {
             assert_eq!(read_record(&recording, 0), refusal(8), "{kind}");
-            recording.push(0);
+            recording.push(0xFF);
         }
-        assert_eq!(read_record(&recording, 0), reading(kind, 0, 0, 5));
+        let whole = reading(kind, 0, value, 1 + body);
+        assert_eq!(read_record(&recording, 0), whole);
     }
 }
 
@@ -259,8 +265,10 @@ fn a_replay_stops_at_the_declined_record() {
         (record(9, 4, &[0; 8]), 6),
         (record(9, 1, &[0; 8]), 6),
         (vec![0], 7),
-        (vec![10, 6, 6], 7),
+        (vec![11, 6, 6], 7),
+        (vec![0x8A, 0, 0, 0, 0, 0, 0, 0, 0], 7),
         (vec![5, 0, 0, 0], 8),
+        (vec![10, 0, 0, 0, 1, 0, 0, 0], 8),
         (vec![1, 0xFF, 0xFF, 0xFF, 0xFF, 0, 0, 0], 8),
     ];
     for (bad, number) in bads {
@@ -303,8 +311,9 @@ fn the_place_is_where_the_declined_record_begins() {
         vec![7],
         record(8, 0, &[0; 8]),
         record(9, 0, &[0; 8]),
+        record(10, 1, &[0; 4]),
     ];
-    let places = [0, 9, 18, 23, 28, 33, 34, 35, 48, 61];
+    let places = [0, 9, 18, 23, 28, 33, 34, 35, 48, 61, 70];
     for (before, place) in places.into_iter().enumerate() {
         let mut recording = kinds[..before].concat();
         recording.push(0);
@@ -322,7 +331,7 @@ fn the_last_byte_of_the_longest_recording_has_a_place() {
     expect_stop_by_7(&recording, 16_382, 16_382);
     // 1,260 records of 13 bytes, and one more byte.
     let checks = record(9, 0, &[0; 8]).repeat(1_260);
-    expect_stop_by_7(&[&checks[..], &[10]].concat(), 1_260, 16_380);
+    expect_stop_by_7(&[&checks[..], &[11]].concat(), 1_260, 16_380);
 }
 
 /// The header and the stop line are written though nothing is done.
@@ -366,9 +375,9 @@ fn a_store_past_the_lent_length_is_dropped() {
     assert!(bench == before);
 }
 
-/// Each DP run of a replay has 2,048 bytes of output of its own.
+/// Each run of a replay has 2,048 bytes of output of its own.
 #[test]
-fn each_dp_run_has_its_own_output() {
+fn each_run_has_its_own_output() {
     let mut bench = Bench::new();
     bench.state.dp.limit = 8 * 600;
     let run = [4, 0xFF, 0xFF, 0xFF, 0xFF];
@@ -411,8 +420,13 @@ fn by_single_calls(bench: &mut Bench, reading: Reading) -> String {
             bench.state = outcome.state;
             return compared('R', address, outcome.answer.value, value);
         }
-        3 => return format!("S {:08X}\n", bench.sp_run(number).count),
-        4 => return format!("D {:08X}\n", bench.dp_run(number, &mut [0; 2_048]).count),
+        3 => return format!("S {:08X}\n", bench.run_sp(number).count),
+        4 => return format!("D {:08X}\n", bench.run_dp(number, &mut [0; 2_048])),
+        10 => {
+            let upper = (value >> 32) as u32;
+            let (answer, words) = bench.run(upper, number, &mut [0; 2_048]);
+            return format!("S {:08X}\nD {words:08X}\n", answer.count);
+        }
         5 => bench.took(tick(&state, number), success(0, 0)),
         6 => bench.took(sp_break(&state), success(0, 0)),
         7 => bench.took(acknowledge(&state), success(0, 0)),
@@ -435,7 +449,7 @@ fn a_replay_is_its_records() {
     for seed in 1..=4 {
         let program = env!("CARGO_BIN_EXE_generate");
         let made = Command::new(program)
-            .args([seed.to_string(), "9000".to_string()])
+            .args([&seed.to_string(), "9000", "merged"])
             .output();
         let recording = made.expect("the program runs").stdout;
         assert!(recording.len() > 8_900);

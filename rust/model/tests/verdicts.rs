@@ -121,7 +121,8 @@ fn refused() -> Vec<(Vec<u8>, u32)> {
         (check(0, 1)[..12].to_vec(), 8),
         (vec![1, 4, 4, 0, 0x20, 0, 0, 0, 0], 5),
         ([&[0][..], &read(SP_STATUS, 1)].concat(), 7),
-        ([&[10][..], &check(0, 1)].concat(), 7),
+        ([&[11][..], &check(0, 1)].concat(), 7),
+        ([&[10][..], &read(SP_STATUS, 1)[..7]].concat(), 8),
     ]
 }
 
@@ -167,7 +168,8 @@ fn a_recording_without_reads_and_checks_says_nothing() {
     let write = [1, 4, 4, 0, 0x10, 0, 0, 0, 2];
     let store = [8, 0, 0, 0, 8, 1, 2, 3, 4, 5, 6, 7, 8];
     let runs = [3, 0, 0, 0, 1, 4, 0, 0, 0, 1];
-    let others = [&write[..], &store, &runs, &TICK, &[6, 7]].concat();
+    let merged = [10, 0, 0, 0, 1, 0, 0, 0, 1];
+    let others = [&write[..], &store, &runs, &merged, &TICK, &[6, 7]].concat();
     for recording in [&others[..], &[], &[BREAK; 16_383]] {
         let nothing = expect_end(recording, Findings::default());
         assert_eq!(nothing, Verdict::NothingCompared);

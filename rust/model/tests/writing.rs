@@ -13,8 +13,8 @@ type Given = (u8, u32, u64);
 const WORD: u64 = 0xFEDC_BA98_7654_3210;
 
 /// Each kind with its bytes, written out by hand. The addresses of kinds 3 to 7
-/// and the values of 6 and 7 are fields that they do not have.
-const KINDS: [(Given, &[u8]); 9] = [
+/// and of 10, and the values of 6 and 7 are fields that they do not have.
+const KINDS: [(Given, &[u8]); 10] = [
     (
         (1, 0x0404_000C, WORD),
         &[1, 0x04, 0x04, 0x00, 0x0C, 0x76, 0x54, 0x32, 0x10],
@@ -39,6 +39,10 @@ const KINDS: [(Given, &[u8]); 9] = [
         &[
             9, 0x04, 0x00, 0x1F, 0xF8, 0xFE, 0xDC, 0xBA, 0x98, 0x76, 0x54, 0x32, 0x10,
         ],
+    ),
+    (
+        (10, u32::MAX, WORD),
+        &[10, 0xFE, 0xDC, 0xBA, 0x98, 0x76, 0x54, 0x32, 0x10],
     ),
 ];
 
@@ -149,6 +153,8 @@ fn values_have_their_edges() {
             let record = [&[kind, 0x04, 0x00, 0x10, 0x08][..], &bytes].concat();
             expect_written((kind, 0x0400_1008, value), 20, 3, &record);
         }
+        let record = [&[10][..], &bytes].concat();
+        expect_written((10, 0, value), 20, 3, &record);
     }
 }
 
@@ -166,6 +172,9 @@ fn fields_that_a_kind_does_not_have_play_no_part() {
             for kind in [3, 4, 5] {
                 expect_written((kind, address, value), 16, 2, &[kind, 1, 2, 3, 4]);
             }
+            let halves = [(upper as u32).to_be_bytes(), [1, 2, 3, 4]].concat();
+            let run = [&[10][..], &halves].concat();
+            expect_written((10, address, value), 16, 2, &run);
             for kind in [6, 7] {
                 expect_written((kind, address, value), 16, 2, &[kind]);
                 // Nor do they make it longer.
@@ -191,7 +200,7 @@ fn an_unknown_kind_gives_7_with_or_without_room() {
             expect_refused(given, 20_000, LONGEST, 7);
         }
     }
-    assert_eq!(unknown, 247);
+    assert_eq!(unknown, 246);
 }
 
 /// The number is given where the record would fit and where it would not.
@@ -351,6 +360,7 @@ fn fields_of(given: Given) -> Given {
         1 | 2 => (kind, address, low),
         3..=5 => (kind, 0, low),
         6 | 7 => (kind, 0, 0),
+        10 => (kind, 0, value),
         _ => given,
     }
 }
@@ -398,12 +408,12 @@ fn copied(recording: &[u8]) -> Vec<u8> {
 #[test]
 fn writing_what_was_read_gives_the_same_bytes() {
     let kinds = KINDS.map(|(_, bytes)| bytes).concat();
-    assert_eq!(kinds.len(), 9 + 9 + 5 + 5 + 5 + 1 + 1 + 13 + 13);
+    assert_eq!(kinds.len(), 9 + 9 + 5 + 5 + 5 + 1 + 1 + 13 + 13 + 9);
     assert!(copied(&kinds) == kinds);
     for seed in 1..=4 {
         let program = env!("CARGO_BIN_EXE_generate");
         let made = Command::new(program)
-            .args([seed.to_string(), "16383".to_string()])
+            .args([&seed.to_string(), "16383", "merged"])
             .output();
         let recording = made.expect("the program runs").stdout;
         assert!(recording.len() > 16_300);

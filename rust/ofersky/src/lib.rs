@@ -6,10 +6,12 @@
 //! ```
 //! let mut rdram = vec![0; 32768];
 //! let (mut dmem, mut imem) = ([0; 4096], [0; 4096]);
-//! // RDLEN 0x0F loads two words; the run moves them.
+//! let mut out = [0; 64];
+//! // RDLEN 0x0F loads two words; the run moves them. There is no list, so the DP hands out no word.
 //! let started = ofersky::write_register(ofersky::power_up(), 0x0404_0008, 0x0F);
-//! let ran = ofersky::sp_run(started.state, 100, &mut rdram, &mut dmem, &mut imem);
-//! assert_eq!((ran.answer.number, ran.answer.count), (0, 2));
+//! let ran = ofersky::run(started.state, 100, 100, &mut rdram, &mut dmem, &mut imem, &mut out);
+//! let answer = ran.outcome.answer;
+//! assert_eq!((answer.number, answer.count, ran.words), (0, 2, 0));
 //! ```
 
 /// The calls as the library exports them: a slice is a pointer and then a length.
@@ -101,6 +103,16 @@ pub struct Outcome {
     pub answer: Answer,
 }
 
+/// What a run gives: the outcome, whose count is the SP's, and the DP's count.
+#[repr(C)]
+#[derive(Clone, Copy, Debug, Default, PartialEq, Eq)]
+pub struct Ran {
+    /// Its count is the number of words that the SP moved.
+    pub outcome: Outcome,
+    /// How many words the DP handed out; they stand in the output, from its start on.
+    pub words: u32,
+}
+
 /// Where the next drawing word stands: in RDRAM (`memory` 0) or in DMEM (1), `length` bytes from `offset` on. The length is 8, or 0.
 #[repr(C)]
 #[derive(Clone, Copy, Debug, Default, PartialEq, Eq)]
@@ -110,7 +122,8 @@ pub struct Part {
     pub length: u32,
 }
 
-/// A record. `value` is the second field of kinds 1, 2, 8 and 9, and the only one of kinds 3, 4 and 5.
+/// A record. `value` is the second field of kinds 1, 2, 8 and 9, and the only one of kinds 3, 4 and 5; of kind 10 its upper half
+/// is the SP's budget and its lower half the DP's.
 /// A field that a kind does not have is 0 in a record that is read, and plays no part in one that is written.
 #[repr(C)]
 #[derive(Clone, Copy, Debug, Default, PartialEq, Eq)]
@@ -235,29 +248,44 @@ pub fn sp_turn(state: State, rdram: &mut [u8], dmem: &mut [u8], imem: &mut [u8])
     unsafe { raw::ofersky_sp_turn(state, r.0, r.1, d.0, d.1, i.0, i.1) }
 }
 
-/// SP turns until the budget is used or the engine is idle. Refusals: 1, 2, 3, 4.
-pub fn sp_run(
-    state: State,
-    budget: u32,
-    rdram: &mut [u8],
-    dmem: &mut [u8],
-    imem: &mut [u8],
-) -> Outcome {
-    let [r, d, i] = [rdram, dmem, imem].map(lent);
-    unsafe { raw::ofersky_sp_run(state, budget, r.0, r.1, d.0, d.1, i.0, i.1) }
-}
-
 /// One DP turn; its value is the word fetched. Refusals: 1, 2, 4.
 pub fn dp_turn(state: State, rdram: &[u8], dmem: &[u8]) -> Outcome {
     let [r, d] = [rdram, dmem].map(shared);
     unsafe { raw::ofersky_dp_turn(state, r.0, r.1, d.0, d.1) }
 }
 
-/// DP turns until the budget is used, nothing is fetched or `out` is full. Refusals: 1, 2, 4.
-pub fn dp_run(state: State, budget: u32, rdram: &[u8], dmem: &[u8], out: &mut [u8]) -> Outcome {
-    let [r, d] = [rdram, dmem].map(shared);
-    let o = lent(out);
-    unsafe { raw::ofersky_dp_run(state, budget, r.0, r.1, d.0, d.1, o.0, o.1) }
+/// SP turn, DP turn, SP turn and so on, each engine until its budget is used or a turn of it would do nothing, and the DP
+/// also until `out` has no room for a word. Where both engines are at work on the same bytes, this order decides.
+/// Refusals: 1, 2, 3, 4.
+///
+/// ```
+/// let (mut rdram, mut dmem, mut imem) = ([0; 64], [1; 4096], [0; 4096]);
+/// let mut out = [0xFF; 16];
+/// let mut state = ofersky::power_up();
+/// // The SP stores the first two words of DMEM at 0 and 8, and the list has the words at 8 and 16.
+/// for (address, value) in [(0x0404_000C, 0x0F), (0x0410_0000, 8), (0x0410_0004, 24)] {
+///     state = ofersky::write_register(state, address, value).state;
+/// }
+/// let ran = ofersky::run(state, 100, 100, &mut rdram, &mut dmem, &mut imem, &mut out);
+/// assert_eq!((ran.outcome.answer.count, ran.words), (2, 2));
+/// // The word at 8 is fetched before the SP's second turn stores it.
+/// assert_eq!((rdram[8], out), (1, [0; 16]));
+/// ```
+pub fn run(
+    state: State,
+    sp_budget: u32,
+    dp_budget: u32,
+    rdram: &mut [u8],
+    dmem: &mut [u8],
+    imem: &mut [u8],
+    out: &mut [u8],
+) -> Ran {
+    let [r, d, i, o] = [rdram, dmem, imem, out].map(lent);
+    unsafe {
+        raw::ofersky_run(
+            state, sp_budget, dp_budget, r.0, r.1, d.0, d.1, i.0, i.1, o.0, o.1,
+        )
+    }
 }
 
 /// Where the eight bytes stand that the next DP turn would hand out, or an empty part.
@@ -288,11 +316,12 @@ pub fn read_record(recording: &[u8], place: usize) -> Reading {
 /// use ofersky::{read_record, write_record, Record};
 ///
 /// let load = Record { kind: 1, address: 0x0404_0008, value: 0x0F };
-/// let run = Record { kind: 3, address: 0, value: 100 };
-/// let mut buffer = [0; 14];
+/// // The SP's budget is 100, and the DP's 20.
+/// let run = Record { kind: 10, address: 0, value: 100 << 32 | 20 };
+/// let mut buffer = [0; 18];
 /// let after = write_record(load, &mut buffer, 0).value as usize;
 /// let end = write_record(run, &mut buffer, after).value as usize;
-/// assert_eq!(buffer, [1, 4, 4, 0, 8, 0, 0, 0, 0x0F, 3, 0, 0, 0, 100]);
+/// assert_eq!(buffer, [1, 4, 4, 0, 8, 0, 0, 0, 0x0F, 10, 0, 0, 0, 100, 0, 0, 0, 20]);
 /// assert_eq!(read_record(&buffer, 0).item, load);
 /// assert_eq!(read_record(&buffer, after).item, run);
 /// // The buffer is full.

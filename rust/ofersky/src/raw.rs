@@ -1,6 +1,6 @@
 //! The functions of the static library. Nothing checks these declarations against its source: the comparison with the model does.
 
-use crate::{Answer, Outcome, Part, Reading, Record, Replayed, State};
+use crate::{Answer, Outcome, Part, Ran, Reading, Record, Replayed, State};
 
 extern "C" {
     pub fn ofersky_power_up() -> State;
@@ -19,16 +19,6 @@ extern "C" {
         imem: *mut u8,
         imem_bytes: usize,
     ) -> Outcome;
-    pub fn ofersky_sp_run(
-        s: State,
-        budget: u32,
-        rdram: *mut u8,
-        rdram_bytes: usize,
-        dmem: *mut u8,
-        dmem_bytes: usize,
-        imem: *mut u8,
-        imem_bytes: usize,
-    ) -> Outcome;
     pub fn ofersky_dp_turn(
         s: State,
         rdram: *const u8,
@@ -36,16 +26,19 @@ extern "C" {
         dmem: *const u8,
         dmem_bytes: usize,
     ) -> Outcome;
-    pub fn ofersky_dp_run(
+    pub fn ofersky_run(
         s: State,
-        budget: u32,
-        rdram: *const u8,
+        sp_budget: u32,
+        dp_budget: u32,
+        rdram: *mut u8,
         rdram_bytes: usize,
-        dmem: *const u8,
+        dmem: *mut u8,
         dmem_bytes: usize,
+        imem: *mut u8,
+        imem_bytes: usize,
         out: *mut u8,
         out_bytes: usize,
-    ) -> Outcome;
+    ) -> Ran;
     pub fn ofersky_look_ahead(
         s: State,
         rdram: *const u8,

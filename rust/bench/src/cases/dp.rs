@@ -1,12 +1,12 @@
-//! DP runs over whole lists.
+//! Runs of the DP over whole lists.
 
-use super::{DpWords, DP_STATUS, END, RDRAM, START};
+use super::{run, Words, DP_STATUS, END, RDRAM, START};
 use crate::buffers::{written, Buffers};
 use crate::plain::dp::LENGTHS;
 use crate::plain::{Machine, Ran};
 use crate::random::Random;
 use crate::timing::Line;
-use ofersky::{Outcome, State};
+use ofersky::State;
 use std::hint::black_box;
 
 /// Where lists stand in RDRAM.
@@ -22,7 +22,7 @@ pub enum Commands {
 }
 
 impl Commands {
-    fn name(self) -> &'static str {
+    pub fn name(self) -> &'static str {
         match self {
             Commands::OneWord => "one-word commands",
             Commands::Mixed => "mixed commands",
@@ -107,22 +107,23 @@ impl Lists {
     /// By the call of a library.
     fn called(
         &self,
-        run: impl Fn(State, u32, &[u8], &[u8], &mut [u8]) -> Outcome,
+        run: impl Fn(State, &mut Buffers) -> ofersky::Ran,
         b: &mut Buffers,
-    ) -> Outcome {
-        let mut done = Outcome::default();
-        let mut count = 0;
+    ) -> ofersky::Ran {
+        let mut done = ofersky::Ran::default();
+        let mut words = 0;
         for list in &self.lists {
-            let (state, budget) = black_box((list.state, u32::MAX));
-            done = run(state, budget, &b.rdram, &b.dmem[..], &mut b.out);
-            count += done.answer.count;
+            done = run(list.state, b);
+            words += done.words;
         }
-        done.answer.count = count;
+        done.words = words;
         done
     }
 }
 
-impl DpWords for Lists {
+impl Words for Lists {
+    type Given = ofersky::Ran;
+
     fn name(&self) -> &str {
         &self.name
     }
@@ -131,24 +132,21 @@ impl DpWords for Lists {
         self.words * self.lists.len()
     }
 
-    fn ours(&self, b: &mut Buffers) -> Outcome {
-        self.called(ofersky::dp_run, b)
+    fn ours(&self, b: &mut Buffers) -> ofersky::Ran {
+        self.called(|state, b| run(state, [0, u32::MAX], b), b)
     }
 
     #[cfg(before)]
-    fn before(&self, b: &mut Buffers) -> Outcome {
-        self.called(crate::before::dp_run, b)
+    fn before(&self, b: &mut Buffers) -> ofersky::Ran {
+        self.called(|state, b| crate::before::dp_run(state, u32::MAX, b), b)
     }
 
     fn plain(&self, b: &mut Buffers) -> Ran {
-        let mut ran = Ran {
-            machine: Machine::default(),
-            count: 0,
-        };
+        let mut ran = Ran::default();
         for list in &self.lists {
             let budget;
             (ran.machine, budget) = black_box((list.machine, u32::MAX));
-            ran.count += ran.machine.dp.run(budget, &b.rdram, &b.dmem, &mut b.out);
+            ran.words += ran.machine.dp.run(budget, &b.rdram, &b.dmem, &mut b.out);
         }
         ran
     }

@@ -1,15 +1,17 @@
 //! What is timed.
 
+mod both;
 mod dp;
 mod replays;
 mod sp;
 mod turns;
 mod writing;
 
-use crate::buffers::Buffers;
+use crate::buffers::{Buffers, Left};
 use crate::plain::Ran;
 use crate::timing::{measure, Line};
-use ofersky::Outcome;
+use ofersky::State;
+use std::hint::black_box;
 
 const RDRAM: usize = 1 << 24;
 
@@ -27,26 +29,32 @@ const DP_STATUS: u32 = 0x0410_000C;
 pub fn all(show: &mut dyn FnMut(Line)) {
     sp::all(show);
     dp::all(show);
+    both::all(show);
     turns::all(show);
     replays::all(show);
     writing::all(show);
 }
 
-/// The DP's lines, beside an earlier library.
+/// The lines of runs and of DP turns, beside an earlier library.
 #[cfg(before)]
 pub fn before_and_after(show: &mut dyn FnMut(Line)) {
+    sp::before_and_after(show);
     dp::before_and_after(show);
+    both::before_and_after(show);
     turns::before_and_after(show);
 }
 
-/// Words that the DP fetches, in every way that is timed.
-trait DpWords {
+/// Words that the engines move or hand out, in every way that is timed.
+trait Words {
+    /// What a call of the library gives.
+    type Given: Into<Left>;
+
     fn name(&self) -> &str;
     fn words(&self) -> usize;
-    fn ours(&self, buffers: &mut Buffers) -> Outcome;
+    fn ours(&self, buffers: &mut Buffers) -> Self::Given;
     /// By the calls of an earlier library.
     #[cfg(before)]
-    fn before(&self, buffers: &mut Buffers) -> Outcome;
+    fn before(&self, buffers: &mut Buffers) -> Self::Given;
     fn plain(&self, buffers: &mut Buffers) -> Ran;
     fn copy(&self, buffers: &mut Buffers);
 
@@ -72,4 +80,11 @@ trait DpWords {
             |b| self.plain(b),
         )
     }
+}
+
+/// The run of the library over these buffers, as the processor cannot foresee it.
+fn run(state: State, budgets: [u32; 2], b: &mut Buffers) -> ofersky::Ran {
+    let (state, [sp, dp]) = black_box((state, budgets));
+    let (dmem, imem) = (&mut b.dmem[..], &mut b.imem[..]);
+    ofersky::run(state, sp, dp, &mut b.rdram, dmem, imem, &mut b.out)
 }

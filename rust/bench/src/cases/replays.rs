@@ -9,8 +9,27 @@ use crate::timing::{measure, Line};
 
 const RDRAM: usize = 32_768;
 
-/// Groups of 24 records in 200 bytes.
-pub const GROUPS: [usize; 2] = [7, 70];
+/// Groups of 24 records in 200 bytes, with a run of each engine; and the last of 23 records in 199 bytes, with runs of both.
+pub const GROUPS: [(usize, Runs); 3] = [(7, Runs::OfEach), (70, Runs::OfEach), (70, Runs::OfBoth)];
+
+/// Whether each engine has a run of its own.
+#[derive(Clone, Copy, PartialEq)]
+pub enum Runs {
+    OfEach,
+    OfBoth,
+}
+
+impl Runs {
+    pub fn name(self) -> &'static str {
+        match self {
+            Runs::OfEach => "",
+            Runs::OfBoth => ", runs of both",
+        }
+    }
+}
+
+/// The budget of every run.
+const BUDGET: [u8; 4] = 100u32.to_be_bytes();
 
 /// A recording in the making, and the machine that it leads to: reads and checks expect what is there.
 struct Recorder {
@@ -70,7 +89,7 @@ impl Recorder {
     }
 
     /// Stores six words, loads or stores eight by the SP, fetches the six by the DP, and looks at what it did.
-    fn group(&mut self, random: &mut Random) {
+    fn group(&mut self, random: &mut Random, runs: Runs) {
         let ram = 8 * random.below(RDRAM as u64 / 8 - 8) as u32;
         let offset = 8 * random.below(504) as usize;
         for i in 0..6 {
@@ -79,14 +98,19 @@ impl Recorder {
         self.write(SPADDR, offset as u32);
         self.write(RAMADDR, ram);
         self.write(if random.below(4) == 0 { WRLEN } else { RDLEN }, 0x3F);
-        self.record(3, &[&100u32.to_be_bytes()]);
+        if runs == Runs::OfEach {
+            self.record(3, &[&BUDGET]);
+        }
         self.read(SP_STATUS);
         self.read(SPADDR);
         self.check(offset);
         self.record(6, &[]);
         self.write(START, ram);
         self.write(END, ram + 48);
-        self.record(4, &[&100u32.to_be_bytes()]);
+        match runs {
+            Runs::OfEach => self.record(4, &[&BUDGET]),
+            Runs::OfBoth => self.record(10, &[&BUDGET, &BUDGET]),
+        }
         self.record(7, &[]);
         self.read(CURRENT);
         self.read(DP_STATUS);
@@ -98,25 +122,25 @@ impl Recorder {
 }
 
 /// A recording of so many groups, and the number of its records.
-pub fn recording(groups: usize) -> (Vec<u8>, usize) {
+pub fn recording(groups: usize, runs: Runs) -> (Vec<u8>, usize) {
     let mut recorder = Recorder::new();
     let mut random = Random::new();
     for _ in 0..groups {
-        recorder.group(&mut random);
+        recorder.group(&mut random, runs);
     }
     (recorder.bytes, recorder.records)
 }
 
 pub fn all(show: &mut dyn FnMut(Line)) {
-    for groups in GROUPS {
-        let (bytes, records) = recording(groups);
-        show(replayed(&bytes, records));
+    for (groups, runs) in GROUPS {
+        let (bytes, records) = recording(groups, runs);
+        show(replayed(&bytes, records, runs));
     }
 }
 
-fn replayed(recording: &[u8], records: usize) -> Line {
+fn replayed(recording: &[u8], records: usize, runs: Runs) -> Line {
     measure(
-        format!("replay of {} bytes", recording.len()),
+        format!("replay of {} bytes{}", recording.len(), runs.name()),
         records,
         &mut Buffers::new(RDRAM, ofersky::LISTING_BYTES),
         |b| {
@@ -133,7 +157,7 @@ fn replayed(recording: &[u8], records: usize) -> Line {
             };
             let mut machine = Machine::default();
             let count = machine.replay(recording, lent, &mut b.out);
-            Ran { machine, count }
+            Ran::counted(machine, count)
         },
         |b| b.out[..recording.len()].copy_from_slice(recording),
     )

@@ -1,9 +1,10 @@
-//! SP runs over whole transfers.
+//! Runs of the SP over whole transfers.
 
-use super::{RAMADDR, RDLEN, RDRAM, SPADDR, WRLEN};
+use super::{run, Words, RAMADDR, RDLEN, RDRAM, SPADDR, WRLEN};
 use crate::buffers::{written, Buffers};
-use crate::plain::Ran;
-use crate::timing::{measure, Line};
+use crate::plain::{Machine, Ran};
+use crate::timing::Line;
+use ofersky::State;
 use std::hint::black_box;
 
 /// Where transfers begin in RDRAM.
@@ -11,10 +12,41 @@ const BASE: usize = 0x10_0000;
 
 /// Rows of as many words, with as many bytes between them.
 #[derive(Clone, Copy)]
-struct Shape {
+pub struct Shape {
     rows: usize,
     words: usize,
     skip: usize,
+}
+
+impl Shape {
+    /// The rows of so many words without gaps, each as long as a row may be.
+    pub fn of_words(words: usize) -> Shape {
+        shape(words.div_ceil(512), words.min(512), 0)
+    }
+
+    /// The register writes that start it.
+    pub fn writes(self, storing: bool) -> [(u32, u32); 3] {
+        let length = self.skip << 20 | (self.rows - 1) << 12 | (self.words * 8 - 1);
+        [
+            (SPADDR, 0),
+            (RAMADDR, BASE as u32),
+            (if storing { WRLEN } else { RDLEN }, length as u32),
+        ]
+    }
+
+    /// The same bytes to the same place, a row at a time.
+    pub fn copy(self, storing: bool, buffers: &mut Buffers) {
+        let bytes = self.words * 8;
+        for row in 0..self.rows {
+            let ram = &mut buffers.rdram[BASE + row * (bytes + self.skip)..][..bytes];
+            let bank = &mut buffers.dmem[row * bytes % 4096..][..bytes];
+            if storing {
+                ram.copy_from_slice(bank);
+            } else {
+                bank.copy_from_slice(ram);
+            }
+        }
+    }
 }
 
 const SHAPES: [Shape; 7] = [
@@ -31,11 +63,24 @@ const fn shape(rows: usize, words: usize, skip: usize) -> Shape {
     Shape { rows, words, skip }
 }
 
-pub fn all(show: &mut dyn FnMut(Line)) {
-    let mut buffers = Buffers::new(RDRAM, 0);
-    for storing in [false, true] {
-        for shape in SHAPES {
-            show(transfer(&mut buffers, shape, storing));
+/// A transfer that is about to run.
+struct Transfer {
+    name: String,
+    shape: Shape,
+    storing: bool,
+    machine: Machine,
+    state: State,
+}
+
+impl Transfer {
+    fn new(shape: Shape, storing: bool) -> Transfer {
+        let (machine, state) = written(&shape.writes(storing));
+        Transfer {
+            name: name(shape, storing),
+            shape,
+            storing,
+            machine,
+            state,
         }
     }
 }
@@ -47,49 +92,53 @@ fn name(shape: Shape, storing: bool) -> String {
     format!("{call}, {} {rows} of {}{skip}", shape.rows, shape.words)
 }
 
-fn transfer(buffers: &mut Buffers, shape: Shape, storing: bool) -> Line {
-    let Shape { rows, words, skip } = shape;
-    let length = skip << 20 | (rows - 1) << 12 | (words * 8 - 1);
-    let (machine, state) = written(&[
-        (SPADDR, 0),
-        (RAMADDR, BASE as u32),
-        (if storing { WRLEN } else { RDLEN }, length as u32),
-    ]);
-    measure(
-        name(shape, storing),
-        rows * words,
-        buffers,
-        |b| {
-            let (state, budget) = black_box((state, u32::MAX));
-            ofersky::sp_run(
-                state,
-                budget,
-                &mut b.rdram,
-                &mut b.dmem[..],
-                &mut b.imem[..],
-            )
-        },
-        |b| {
-            let (mut machine, budget) = black_box((machine, u32::MAX));
-            let count = machine
-                .sp
-                .run(budget, &mut b.rdram, &mut b.dmem, &mut b.imem);
-            Ran { machine, count }
-        },
-        |b| copy_rows(b, shape, storing),
-    )
+impl Words for Transfer {
+    type Given = ofersky::Ran;
+
+    fn name(&self) -> &str {
+        &self.name
+    }
+
+    fn words(&self) -> usize {
+        self.shape.rows * self.shape.words
+    }
+
+    fn ours(&self, b: &mut Buffers) -> ofersky::Ran {
+        run(self.state, [u32::MAX, 0], b)
+    }
+
+    #[cfg(before)]
+    fn before(&self, b: &mut Buffers) -> ofersky::Ran {
+        crate::before::sp_run(self.state, u32::MAX, b)
+    }
+
+    fn plain(&self, b: &mut Buffers) -> Ran {
+        let (mut machine, budget) = black_box((self.machine, u32::MAX));
+        let (dmem, imem) = (&mut b.dmem, &mut b.imem);
+        let count = machine.sp.run(budget, &mut b.rdram, dmem, imem);
+        Ran::counted(machine, count)
+    }
+
+    fn copy(&self, b: &mut Buffers) {
+        self.shape.copy(self.storing, b);
+    }
 }
 
-/// The same bytes to the same place, a row at a time.
-fn copy_rows(buffers: &mut Buffers, shape: Shape, storing: bool) {
-    let bytes = shape.words * 8;
-    for row in 0..shape.rows {
-        let ram = &mut buffers.rdram[BASE + row * (bytes + shape.skip)..][..bytes];
-        let bank = &mut buffers.dmem[row * bytes % 4096..][..bytes];
-        if storing {
-            ram.copy_from_slice(bank);
-        } else {
-            bank.copy_from_slice(ram);
+/// Transfers of every shape in both directions.
+fn each(mut time: impl FnMut(&mut Buffers, &Transfer)) {
+    let mut buffers = Buffers::new(RDRAM, 0);
+    for storing in [false, true] {
+        for shape in SHAPES {
+            time(&mut buffers, &Transfer::new(shape, storing));
         }
     }
+}
+
+pub fn all(show: &mut dyn FnMut(Line)) {
+    each(|buffers, transfer| show(transfer.beside_plain(buffers)));
+}
+
+#[cfg(before)]
+pub fn before_and_after(show: &mut dyn FnMut(Line)) {
+    each(|buffers, transfer| show(transfer.beside_before(buffers)));
 }

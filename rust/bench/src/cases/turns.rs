@@ -1,7 +1,7 @@
 //! Single turns, each a call of its own. Their cost must not grow with RDRAM.
 
 use super::dp::{fill_list, Commands};
-use super::{DpWords, END, RAMADDR, RDLEN, SPADDR, START};
+use super::{Words, END, RAMADDR, RDLEN, SPADDR, START};
 use crate::buffers::{written, Buffers};
 use crate::plain::{Machine, Ran};
 use crate::timing::{measure, Line};
@@ -48,7 +48,7 @@ fn sp_turns(buffers: &mut Buffers, name: &str) -> Line {
                 let sp = &mut black_box(&mut machine).sp;
                 count += sp.turn(&mut b.rdram, &mut b.dmem, &mut b.imem);
             }
-            Ran { machine, count }
+            Ran::counted(machine, count)
         },
         |b| {
             for at in (0..8 * TURNS).step_by(8) {
@@ -93,7 +93,9 @@ impl DpTurns {
     }
 }
 
-impl DpWords for DpTurns {
+impl Words for DpTurns {
+    type Given = Outcome;
+
     fn name(&self) -> &str {
         &self.name
     }
@@ -119,7 +121,7 @@ impl DpWords for DpTurns {
             count += word.is_some() as u32;
             black_box(u64::from_be_bytes(word.unwrap_or_default()));
         }
-        Ran { machine, count }
+        Ran::counted(machine, count)
     }
 
     fn copy(&self, b: &mut Buffers) {

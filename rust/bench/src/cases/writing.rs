@@ -1,15 +1,15 @@
 //! Recordings written record by record, each by a call of its own. The cost of a record must not grow with the recording.
 
-use super::replays::{recording, GROUPS};
+use super::replays::{recording, Runs, GROUPS};
 use crate::buffers::Buffers;
 use crate::plain::writing::write;
 use crate::timing::{measure, Line};
 use ofersky::Record;
 
 pub fn all(show: &mut dyn FnMut(Line)) {
-    for groups in GROUPS {
-        let (bytes, _) = recording(groups);
-        show(written(&bytes, &records(&bytes)));
+    for (groups, runs) in GROUPS {
+        let (bytes, _) = recording(groups, runs);
+        show(written(&bytes, &records(&bytes), runs));
     }
 }
 
@@ -25,9 +25,9 @@ fn records(recording: &[u8]) -> Vec<Record> {
     records
 }
 
-fn written(recording: &[u8], records: &[Record]) -> Line {
+fn written(recording: &[u8], records: &[Record], runs: Runs) -> Line {
     measure(
-        format!("writing of {} bytes", recording.len()),
+        format!("writing of {} bytes{}", recording.len(), runs.name()),
         records.len(),
         &mut Buffers::new(0, recording.len()),
         |b| {

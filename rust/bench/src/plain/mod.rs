@@ -1,5 +1,6 @@
 //! The same two engines in plain Rust, written for speed: a machine that is changed in place, with no check of a call's input and no proof.
 
+mod both;
 pub mod dp;
 mod listing;
 pub mod registers;
@@ -20,8 +21,21 @@ pub struct Machine {
     pub dp: Dp,
 }
 
-/// What a call leaves: the machine, and the words moved, put out or the records done.
+/// What a call leaves: the machine; the words moved or the records done; and the words put out by a run.
+#[derive(Clone, Copy, Default)]
 pub struct Ran {
     pub machine: Machine,
     pub count: u32,
+    pub words: u32,
+}
+
+impl Ran {
+    /// Where no word is put out.
+    pub fn counted(machine: Machine, count: u32) -> Ran {
+        Ran {
+            machine,
+            count,
+            words: 0,
+        }
+    }
 }

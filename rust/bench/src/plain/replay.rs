@@ -8,7 +8,7 @@ pub struct Lent<'a> {
     pub rdram: &'a mut [u8],
     pub dmem: &'a mut Bank,
     pub imem: &'a mut Bank,
-    /// Where DP runs put their words.
+    /// Where runs put their words.
     pub words: &'a mut [u8; 2048],
 }
 
@@ -71,6 +71,18 @@ impl Machine {
             9 => {
                 let (address, expected) = (number(rest), take(rest));
                 listing.put_found(b'L', address, lent.load(address), expected);
+            }
+            10 => {
+                let budgets = [number(rest), number(rest)];
+                let Lent {
+                    rdram,
+                    dmem,
+                    imem,
+                    words,
+                } = lent;
+                let [moved, put] = self.run(budgets, rdram, dmem, imem, &mut words[..]);
+                listing.put_run(b'S', moved);
+                listing.put_run(b'D', put);
             }
             _ => panic!("no record has kind {kind}"),
         }

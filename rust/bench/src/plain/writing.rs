@@ -24,6 +24,7 @@ pub fn write(kind: u8, address: u32, value: u64, buffer: &mut [u8], place: usize
             let place = put(buffer, place, address);
             put(buffer, place, value.to_be_bytes())
         }
+        10 => put(buffer, place, value.to_be_bytes()),
         _ => panic!("no record has kind {kind}"),
     }
 }

@@ -1,4 +1,5 @@
-//! `generate SEED BYTES` writes a recording of at most BYTES bytes.
+//! `generate SEED BYTES` writes a recording of at most BYTES bytes, and
+//! `generate SEED BYTES merged` one with runs of both engines in it, too.
 //!
 //! The traffic is made of sequences, each a few records for one of the engines.
 //! Every pass goes through all sequences in a shuffled order. The model is
@@ -82,6 +83,9 @@ struct Generator {
     machine: Machine,
     bytes: Vec<u8>,
     limit: usize,
+    /// Runs of both engines are made. Nothing is chosen for them otherwise, so
+    /// that a seed gives what it gave before there were any.
+    merged: bool,
     /// A record did not fit: nothing more is written.
     done: bool,
     sp_words: u32,
@@ -154,13 +158,38 @@ impl Generator {
     }
 
     fn sp_run(&mut self, budget: u32) {
-        // Run on a copy first only to know how many words it moves.
-        self.sp_words += self.machine.clone().sp_run(budget);
+        if self.merges() {
+            let dp_budget = self.budget();
+            return self.run(budget, dp_budget);
+        }
+        self.count_sp_words(budget);
         self.put(Record::SpRun { budget });
     }
 
     fn dp_run(&mut self, budget: u32) {
+        if self.merges() {
+            let sp_budget = self.budget();
+            return self.run(sp_budget, budget);
+        }
         self.put(Record::DpRun { budget });
+    }
+
+    /// Of the runs that one engine is meant for, some are for both.
+    fn merges(&mut self) -> bool {
+        self.merged && self.random.once_in(4)
+    }
+
+    fn run(&mut self, sp_budget: u32, dp_budget: u32) {
+        self.count_sp_words(sp_budget);
+        self.put(Record::Run {
+            sp_budget,
+            dp_budget,
+        });
+    }
+
+    /// Runs on a copy, only to know how many words the SP moves.
+    fn count_sp_words(&mut self, budget: u32) {
+        self.sp_words += self.machine.clone().run(budget, 0, &mut []).moved;
     }
 
     fn tick(&mut self, n: u32) {
@@ -768,6 +797,48 @@ impl Generator {
         }
     }
 
+    /// A list and a transfer at once. Mostly the SP writes where the list has yet
+    /// to be fetched, so that the order of their turns decides.
+    fn list_and_transfer(&mut self) {
+        let xbus = self.random.pick(&[CLEAR_XBUS, SET_XBUS]);
+        self.make_ready(xbus);
+        let (start, _) = self.begin_list(14);
+        if self.random.once_in(3) {
+            self.begin_list(3);
+        }
+        self.run(ALL, 0);
+        self.write_spaddr_and_ramaddr();
+        if !self.random.once_in(3) {
+            self.aim_at(start);
+        }
+        let words = 1 + self.random.below(24);
+        let into_bank = self.machine.dp.xbus;
+        let register = if into_bank { SP_RDLEN } else { SP_WRLEN };
+        self.write(register, 8 * words - 1);
+        let mut budgets = (8 + self.random.below(8), 4 + self.random.below(12));
+        for _ in 0..3 {
+            self.run(budgets.0, budgets.1);
+            budgets = (self.budget(), self.budget());
+            self.read_one_of(&[SP_RAMADDR, SP_RDLEN, SP_STATUS]);
+            self.read_one_of(&[DP_CURRENT, DP_STATUS]);
+        }
+        self.run(ALL, ALL);
+        self.read(DP_STATUS);
+        self.check_touched(2);
+    }
+
+    /// Lets the next transfer write from a few words before the start of a list
+    /// or after it on: the DP is ahead of the SP there, or behind it.
+    fn aim_at(&mut self, start: u32) {
+        let ahead = 8 * self.random.below(8);
+        let address = (start + ahead).wrapping_sub(0x20) & RAM_BITS;
+        if self.machine.dp.xbus {
+            self.write(SP_SPADDR, address & 0xFF8);
+        } else {
+            self.write(SP_RAMADDR, address);
+        }
+    }
+
     /// Both engines by turns, with no plan.
     fn mixed(&mut self) {
         for _ in 0..16 {
@@ -819,13 +890,21 @@ const SEQUENCES: [Sequence; 22] = [
     Generator::mixed,
 ];
 
-fn generate(seed: u64, limit: usize) -> Vec<u8> {
+/// These stand beside them where runs of both engines are made.
+const MERGED_SEQUENCES: [Sequence; 3] = [
+    Generator::list_and_transfer,
+    Generator::list_and_transfer,
+    Generator::list_and_transfer,
+];
+
+fn generate(seed: u64, limit: usize, merged: bool) -> Vec<u8> {
     let mut generator = Generator {
         random: Random::new(seed),
         mirrors: Random::new(!seed),
         machine: Machine::new(RDRAM_BYTES),
         bytes: Vec::new(),
         limit,
+        merged,
         done: false,
         sp_words: 0,
         opcodes: Vec::new(),
@@ -836,7 +915,10 @@ fn generate(seed: u64, limit: usize) -> Vec<u8> {
         generator.fill();
     }
     while !generator.done {
-        let mut sequences = SEQUENCES;
+        let mut sequences = SEQUENCES.to_vec();
+        if merged {
+            sequences.extend(MERGED_SEQUENCES);
+        }
         generator.random.shuffle(&mut sequences);
         for sequence in sequences {
             sequence(&mut generator);
@@ -846,13 +928,18 @@ fn generate(seed: u64, limit: usize) -> Vec<u8> {
 }
 
 fn main() -> io::Result<()> {
-    let numbers: Vec<u64> = std::env::args()
-        .skip(1)
+    let arguments: Vec<String> = std::env::args().skip(1).collect();
+    let (numbers, merged) = match &arguments[..] {
+        [numbers @ .., last] if last == "merged" => (numbers, true),
+        numbers => (numbers, false),
+    };
+    let numbers: Vec<u64> = numbers
+        .iter()
         .filter_map(|word| word.parse().ok())
         .collect();
     let [seed, limit] = numbers[..] else {
-        eprintln!("generate SEED BYTES");
+        eprintln!("generate SEED BYTES [merged]");
         std::process::exit(2);
     };
-    io::stdout().write_all(&generate(seed, limit as usize))
+    io::stdout().write_all(&generate(seed, limit as usize, merged))
 }

@@ -174,19 +174,29 @@ impl Bench {
         }
     }
 
-    pub fn sp_run(&mut self, budget: u32) -> Answer {
+    /// A run of both engines. Gives the SP's answer and the DP's words.
+    pub fn run(&mut self, sp_budget: u32, dp_budget: u32, out: &mut [u8]) -> (Answer, u32) {
         let (rdram, dmem, imem) = (&mut self.rdram, &mut self.dmem, &mut self.imem);
-        let outcome = sp_run(&self.state, budget, rdram, dmem, imem);
-        self.answered(outcome)
+        let ran = run(&self.state, sp_budget, dp_budget, rdram, dmem, imem, out);
+        (self.answered(ran.outcome), ran.words)
+    }
+
+    /// A run in which the DP takes no turn.
+    pub fn run_sp(&mut self, budget: u32) -> Answer {
+        let (answer, words) = self.run(budget, 0, &mut []);
+        assert_eq!(words, 0);
+        answer
+    }
+
+    /// A run in which the SP takes no turn. Gives the number of words put out.
+    pub fn run_dp(&mut self, budget: u32, out: &mut [u8]) -> u32 {
+        let (answer, words) = self.run(0, budget, out);
+        assert_eq!(answer, success(0, 0));
+        words
     }
 
     pub fn dp_turn(&mut self) -> Answer {
         let outcome = dp_turn(&self.state, &self.rdram, &self.dmem);
-        self.answered(outcome)
-    }
-
-    pub fn dp_run(&mut self, budget: u32, out: &mut [u8]) -> Answer {
-        let outcome = dp_run(&self.state, budget, &self.rdram, &self.dmem, out);
         self.answered(outcome)
     }
 
@@ -356,11 +366,12 @@ pub fn expect_numbers(bench: &Bench, all: u32, without_imem: u32) {
     let mut tried = bench.clone();
     let (rdram, dmem, imem) = (&mut tried.rdram, &mut tried.dmem, &mut tried.imem);
     let mut out = [0x55; 32];
+    let turned = sp_turn(&bench.state, rdram, dmem, imem);
+    let ran = run(&bench.state, 4, 4, rdram, dmem, imem, &mut out);
     let outcomes = [
-        (sp_turn(&bench.state, rdram, dmem, imem), all),
-        (sp_run(&bench.state, 4, rdram, dmem, imem), all),
+        (turned, all),
+        (ran.outcome, all),
         (dp_turn(&bench.state, rdram, dmem), without_imem),
-        (dp_run(&bench.state, 4, rdram, dmem, &mut out), without_imem),
     ];
     for (outcome, number) in outcomes {
         assert_eq!(outcome.answer.number, number);
@@ -368,7 +379,7 @@ pub fn expect_numbers(bench: &Bench, all: u32, without_imem: u32) {
             assert_eq!(outcome, declined(&bench.state, number));
         }
     }
-    assert_eq!(out == [0x55; 32], without_imem != 0);
+    assert_eq!((ran.words == 0, out == [0x55; 32]), (all != 0, all != 0));
     if all != 0 {
         assert!(tried == *bench);
         expect_replay(bench, &[6], all);

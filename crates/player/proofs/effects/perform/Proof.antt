@@ -1,6 +1,6 @@
 use mathlib.Core.Path.{refl}
 use Rattle.playback.specs.Effects.{after, line}
-use Rattle.player.proofs.Performing.{unlisted-call, listed-call, state-kept, no-line}
+use Rattle.player.proofs.Performing.{unlisted-call, listed-call, run-arm, state-kept, no-line}
 use borrow.Author.Needs.{needs}
 use Rattle.player.proofs.effects.perform.Statement.{statement}
 use Rattle.player.proofs.effects.perform.Tie as tie
@@ -80,6 +80,12 @@ enum-known-item-7 c = search needs
 check-listed-requires : tie.Need-check-listed-requires
 check-listed-requires c κs = search needs
 
+enum-known-item-8 : tie.Need-enum-known-item-8
+enum-known-item-8 c = search needs
+
+run-listed-requires : tie.Need-run-listed-requires
+run-listed-requires c κs = search needs
+
 returns : tie.Need-returns
 unfolding after line
 returns c =
@@ -121,10 +127,8 @@ same-length-5 : tie.Need-same-length-5
 same-length-5 c = search needs
 
 returns-4 : tie.Need-returns-4
-unfolding after line
 returns-4 c =
-    let l = c .before .before .before .before .before .before .before .before .sp-run-listed .ensures in
-    listed-call (c .before .before .before .before .before .before .before .before .before .before .before .before .before .before .item3 .given .1) (l .0) (l .1 .0) refl refl (l .1 .1)
+    run-arm (c .before .before .before .before .before .before .before .before .before .before .before .before .before .before .item3 .given .1) (c .before .before .before .before .before .before .before .before .sp-run-listed .ensures)
 
 same-length-6 : tie.Need-same-length-6
 same-length-6 c = search needs
@@ -135,11 +139,12 @@ same-length-7 c = search needs
 same-length-8 : tie.Need-same-length-8
 same-length-8 c = search needs
 
+same-length-9 : tie.Need-same-length-9
+same-length-9 c = search needs
+
 returns-5 : tie.Need-returns-5
-unfolding after line
 returns-5 c =
-    let l = c .before .before .dp-run-listed .ensures in
-    listed-call (c .before .before .before .before .before .before .before .item4 .given .1) (l .0) refl refl refl (l .1)
+    run-arm (c .before .before .before .before .before .before .before .before .before .before .before .before .before .before .item4 .given .1) (c .before .before .before .before .before .before .before .before .dp-run-listed .ensures)
 
 returns-6 : tie.Need-returns-6
 unfolding after line
@@ -180,23 +185,20 @@ returns-8 c =
     refl
     refl
 
-same-length-9 : tie.Need-same-length-9
-same-length-9 c = search needs
-
 same-length-10 : tie.Need-same-length-10
 same-length-10 c = search needs
 
 same-length-11 : tie.Need-same-length-11
 same-length-11 c = search needs
 
+same-length-12 : tie.Need-same-length-12
+same-length-12 c = search needs
+
 returns-9 : tie.Need-returns-9
 unfolding after line
 returns-9 c =
     let u = c .uncompared2 .ensures in
     state-kept (c .before .before .before .before .before .before .before .before .before .before .before .before .item6 .given .1) (u .0) (c .before .before .before .before .before .before .before .store-at .ensures) refl (no-line _ (u .1) (c .before .before .before .before .before .before .before .before .before .before .before .before .before .before .before .before .before .before .pre)) (u .2, u .3)
-
-same-length-12 : tie.Need-same-length-12
-same-length-12 c = search needs
 
 same-length-13 : tie.Need-same-length-13
 same-length-13 c = search needs
@@ -207,11 +209,30 @@ same-length-14 c = search needs
 same-length-15 : tie.Need-same-length-15
 same-length-15 c = search needs
 
+same-length-16 : tie.Need-same-length-16
+same-length-16 c = search needs
+
 returns-10 : tie.Need-returns-10
 unfolding after line
 returns-10 c =
     let l = c .before .before .check-listed .ensures in
     state-kept (c .before .before .before .before .before .before .before .before .item7 .given .1) (l .0 .0) refl refl (l .0 .1) (l .1)
+
+same-length-17 : tie.Need-same-length-17
+same-length-17 c = search needs
+
+same-length-18 : tie.Need-same-length-18
+same-length-18 c = search needs
+
+same-length-19 : tie.Need-same-length-19
+same-length-19 c = search needs
+
+same-length-20 : tie.Need-same-length-20
+same-length-20 c = search needs
+
+returns-11 : tie.Need-returns-11
+returns-11 c =
+    run-arm (c .before .before .before .before .before .before .before .before .before .before .before .before .before .before .item8 .given .1) (c .before .before .before .before .before .before .before .before .run-listed .ensures)
 
 pub perform-spec : {M : Type 1} → statement M
 perform-spec =
@@ -242,6 +263,8 @@ perform-spec =
     uncompared-requires-2
     enum-known-item-7
     check-listed-requires
+    enum-known-item-8
+    run-listed-requires
     returns
     returns-2
     same-length
@@ -254,16 +277,22 @@ perform-spec =
     same-length-6
     same-length-7
     same-length-8
+    same-length-9
     returns-5
     returns-6
     returns-7
     returns-8
-    same-length-9
     same-length-10
     same-length-11
-    returns-9
     same-length-12
+    returns-9
     same-length-13
     same-length-14
     same-length-15
-    returns-10)
+    same-length-16
+    returns-10
+    same-length-17
+    same-length-18
+    same-length-19
+    same-length-20
+    returns-11)

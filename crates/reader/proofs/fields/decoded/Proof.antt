@@ -9,12 +9,12 @@ use Rattle.recording.specs.Kinds.{kinds, decoded}
 use Rattle.reader.proofs.fields.decoded.Statement.{statement}
 use Rattle.reader.proofs.fields.decoded.Tie as tie
 
--- A kind that is none of 1 to 9 and not 0 is at least 10: `omega` splits six times at most, so in two steps
+-- A kind that is none of 1 to 10 and not 0 is at least 11: `omega` splits six times at most, so in two steps
 low : {k : ℕ} → 0 < k → (k ≡ 1 → ⊥) → (k ≡ 2 → ⊥) → (k ≡ 3 → ⊥) → (k ≡ 4 → ⊥) → (k ≡ 5 → ⊥) → 6 ≤ k
 low h a b c d e = omega arith
 
-high : {k : ℕ} → 6 ≤ k → (k ≡ 6 → ⊥) → (k ≡ 7 → ⊥) → (k ≡ 8 → ⊥) → (k ≡ 9 → ⊥) → 10 ≤ k
-high h a b c d = omega arith
+high : {k : ℕ} → 6 ≤ k → (k ≡ 6 → ⊥) → (k ≡ 7 → ⊥) → (k ≡ 8 → ⊥) → (k ≡ 9 → ⊥) → (k ≡ 10 → ⊥) → 11 ≤ k
+high h a b c d e = omega arith
 
 returns : tie.Need-returns
 unfolding decoded
@@ -54,13 +54,18 @@ returns-9 c = simp (c .match .keys9)
 
 returns-10 : tie.Need-returns-10
 unfolding decoded
-returns-10 c =
+returns-10 c = simp (c .match .keys10)
+
+returns-11 : tie.Need-returns-11
+unfolding decoded
+returns-11 c =
     let r = c .match .rest in
     let a = c .before .args in
     let k = a .kind in
-    let none : 0 < k → 10 ≤ k
-    = λ h. high (low h (r .0 .0 .0 .0 .0 .0 .0 .0 .1) (r .0 .0 .0 .0 .0 .0 .0 .1) (r .0 .0 .0 .0 .0 .0 .1) (r .0 .0 .0 .0 .0 .1) (r .0 .0 .0 .0 .1))
-    (r .0 .0 .0 .1) (r .0 .0 .1) (r .0 .1) (r .1) in
+    let five = r .0 .0 .0 .0 .0 in
+    let none : 0 < k → 11 ≤ k
+    = λ h. high (low h (five .0 .0 .0 .0 .1) (five .0 .0 .0 .1) (five .0 .0 .1) (five .0 .1) (five .1))
+    (r .0 .0 .0 .0 .1) (r .0 .0 .0 .1) (r .0 .0 .1) (r .0 .1) (r .1) in
     ⊎-elim
     (λ (z : k ≡ 0). simp z)
     (λ (h : 0 < k). sym (List·getD-eq-default (kinds (a .a) (a .v) (a .w)) None (none h)))
@@ -79,4 +84,5 @@ decoded-spec =
     returns-7
     returns-8
     returns-9
-    returns-10)
+    returns-10
+    returns-11)

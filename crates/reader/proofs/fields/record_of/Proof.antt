@@ -68,7 +68,29 @@ decoded-requires c κs = search needs
 
 returns : tie.Need-returns
 unfolding recordOf
-returns c = cc
+returns c =
+    let low = c .before .before in
+    let second = low .before .before .before .before .before in
+    let first = second .before .before .before .before .before in
+    simp (
+      c .decoded .ensures,
+      c .before .byte13 .ensures,
+      low .joined3 .ensures,
+      low .before .byte12 .ensures,
+      low .before .before .byte11 .ensures,
+      low .before .before .before .byte10 .ensures,
+      low .before .before .before .before .byte9 .ensures,
+      second .joined2 .ensures,
+      second .before .byte8 .ensures,
+      second .before .before .byte7 .ensures,
+      second .before .before .before .byte6 .ensures,
+      second .before .before .before .before .byte5 .ensures,
+      first .joined .ensures,
+      first .before .byte4 .ensures,
+      first .before .before .byte3 .ensures,
+      first .before .before .before .byte2 .ensures,
+      first .before .before .before .before .byte .ensures,
+    )
 
 pub record-of-spec : {M : Type 1} → statement M
 record-of-spec =

@@ -50,6 +50,9 @@ enum-known-item-4 c = search needs
 memory-number-requires-2 : tie.Need-memory-number-requires-2
 memory-number-requires-2 c κs = search needs
 
+enum-told-7 : tie.Need-enum-told-7
+enum-told-7 c = search needs
+
 returns : tie.Need-returns
 returns c = search needs
 
@@ -80,6 +83,9 @@ returns-9 c = cc
 returns-10 : tie.Need-returns-10
 returns-10 c = cc
 
+returns-11 : tie.Need-returns-11
+returns-11 c = search needs
+
 pub address-number-spec : {M : Type 1} → statement M
 address-number-spec =
     tie.close
@@ -100,6 +106,7 @@ address-number-spec =
     memory-number-requires
     enum-known-item-4
     memory-number-requires-2
+    enum-told-7
     returns
     returns-2
     returns-3
@@ -109,4 +116,5 @@ address-number-spec =
     returns-7
     returns-8
     returns-9
-    returns-10)
+    returns-10
+    returns-11)

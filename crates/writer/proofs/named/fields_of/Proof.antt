@@ -1,4 +1,6 @@
+use mathlib.Core.Path.{sym, ap, _∙_}
 use borrow.Author.Needs.{needs}
+use Rattle.recording.specs.Fields.{fieldsOf}
 use Rattle.writer.proofs.named.fields_of.Statement.{statement}
 use Rattle.writer.proofs.named.fields_of.Tie as tie
 
@@ -77,23 +79,41 @@ enum-known-item-7 c = search needs
 of-kind-requires-10 : tie.Need-of-kind-requires-10
 of-kind-requires-10 c κs = search needs
 
+enum-known-item-8 : tie.Need-enum-known-item-8
+enum-known-item-8 c = search needs
+
+cast-of-kind-6 : tie.Need-cast-of-kind-6
+cast-of-kind-6 c = search needs
+
+mul-of-kind : tie.Need-mul-of-kind
+mul-of-kind c = search needs
+
+cast-of-kind-7 : tie.Need-cast-of-kind-7
+cast-of-kind-7 c = search needs
+
+add-of-kind : tie.Need-add-of-kind
+add-of-kind c = search needs
+
+of-kind-requires-11 : tie.Need-of-kind-requires-11
+of-kind-requires-11 c κs = search needs
+
 returns : tie.Need-returns
 returns c = cc
 
 returns-2 : tie.Need-returns-2
-returns-2 c = cc
+returns-2 c = c .of-kind2 .ensures ∙ ap fieldsOf (sym (c .before .before .item .given .1))
 
 returns-3 : tie.Need-returns-3
-returns-3 c = cc
+returns-3 c = c .of-kind3 .ensures ∙ ap fieldsOf (sym (c .before .before .item2 .given .1))
 
 returns-4 : tie.Need-returns-4
-returns-4 c = cc
+returns-4 c = c .of-kind4 .ensures ∙ ap fieldsOf (sym (c .before .before .item3 .given .1))
 
 returns-5 : tie.Need-returns-5
-returns-5 c = cc
+returns-5 c = c .of-kind5 .ensures ∙ ap fieldsOf (sym (c .before .before .item4 .given .1))
 
 returns-6 : tie.Need-returns-6
-returns-6 c = cc
+returns-6 c = c .of-kind6 .ensures ∙ ap fieldsOf (sym (c .before .before .item5 .given .1))
 
 returns-7 : tie.Need-returns-7
 returns-7 c = cc
@@ -102,10 +122,13 @@ returns-8 : tie.Need-returns-8
 returns-8 c = cc
 
 returns-9 : tie.Need-returns-9
-returns-9 c = cc
+returns-9 c = c .of-kind9 .ensures ∙ ap fieldsOf (sym (c .before .before .item6 .given .1))
 
 returns-10 : tie.Need-returns-10
-returns-10 c = cc
+returns-10 c = c .of-kind10 .ensures ∙ ap fieldsOf (sym (c .before .before .item7 .given .1))
+
+returns-11 : tie.Need-returns-11
+returns-11 c = c .of-kind11 .ensures ∙ ap fieldsOf (sym (c .before .before .item8 .given .1))
 
 pub fields-of-spec : {M : Type 1} → statement M
 fields-of-spec =
@@ -136,6 +159,12 @@ fields-of-spec =
     of-kind-requires-9
     enum-known-item-7
     of-kind-requires-10
+    enum-known-item-8
+    cast-of-kind-6
+    mul-of-kind
+    cast-of-kind-7
+    add-of-kind
+    of-kind-requires-11
     returns
     returns-2
     returns-3
@@ -145,4 +174,5 @@ fields-of-spec =
     returns-7
     returns-8
     returns-9
-    returns-10)
+    returns-10
+    returns-11)
