@@ -33,10 +33,10 @@ returns c =
     let o = c .before .before .before in
     let w = o .before .before in
     let i = w .before in
-    turn-taken (i .before .fetches .ensures) (i .if1 .taken) (w .list-word .ensures) (o .store-word .ensures) (c .next .ensures)
+    λ p. turn-taken (i .before .fetches .ensures) (i .if1 .taken) (w .list-word .ensures) (o .store-word .ensures) (c .next .ensures p)
 
 returns-2 : tie.Need-returns-2
-returns-2 c = turn-passed (c .before .fetches .ensures) (c .if1 .left)
+returns-2 c = λ p. turn-passed (c .before .fetches .ensures) (c .if1 .left)
 
 pub step-spec : {M : Type 1} → statement M
 step-spec =

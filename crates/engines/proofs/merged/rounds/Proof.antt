@@ -45,10 +45,7 @@ step-requires : tie.Need-step-requires Inv-loop μ-loop Inv-loop2 μ-loop2
 step-requires c κs = search needs
 
 step-requires-2 : tie.Need-step-requires-2 Inv-loop μ-loop Inv-loop2 μ-loop2
-step-requires-2 c κs =
-    let x = c .before .before .before .before .before .before .before .before .before .before .before in
-    let l = x .before .before .before .before .before .before in
-    l .before .length-table .ensures
+step-requires-2 c κs = search needs
 
 loop-less : tie.Need-loop-less Inv-loop μ-loop Inv-loop2 μ-loop2
 loop-less c =
@@ -61,7 +58,7 @@ loop-less c =
     let o = l .loop in
     let b = cutTo (a .spbudget) (r .room-for .result) in
     let q = standing (o .sp) (o .dp) (memory (o .rdram) (o .dmem) (o .imem)) (o .out) (o .moved) (o .words) in
-    less b q _ (round-of b q (x .step .ensures) (y .step2 .ensures)) (sp-lives b q (t .if1 .taken))
+    less b q _ (round-of b q (x .step .ensures) (y .step2 .ensures (l .before .length-table .ensures))) (sp-lives b q (t .if1 .taken))
 
 loop-again : tie.Need-loop-again Inv-loop μ-loop Inv-loop2 μ-loop2
 loop-again c =
@@ -74,7 +71,7 @@ loop-again c =
     let o = l .loop in
     let b = cutTo (a .spbudget) (r .room-for .result) in
     let q = standing (o .sp) (o .dp) (memory (o .rdram) (o .dmem) (o .imem)) (o .out) (o .moved) (o .words) in (
-      again b q (round-of b q (x .step .ensures) (y .step2 .ensures)) (sp-lives b q (t .if1 .taken)) (o .inv .0),
+      again b q (round-of b q (x .step .ensures) (y .step2 .ensures (l .before .length-table .ensures))) (sp-lives b q (t .if1 .taken)) (o .inv .0),
       x .step .kept .1 .1 .1 .0 ∙ o .inv .1,
       x .step .kept .1 .1 .1 .1 .0 ∙ o .inv .2,
       x .step .kept .1 .1 .1 .1 .1 .0 ∙ o .inv .3,
@@ -88,10 +85,7 @@ fetches-requires : tie.Need-fetches-requires Inv-loop μ-loop Inv-loop2 μ-loop2
 fetches-requires c κs = search needs
 
 step-requires-3 : tie.Need-step-requires-3 Inv-loop μ-loop Inv-loop2 μ-loop2
-step-requires-3 c κs =
-    let d = c .before .before .before .before .before .before in
-    let l = d .before .before .before in
-    l .before .length-table .ensures
+step-requires-3 c κs = search needs
 
 loop2-less : tie.Need-loop2-less Inv-loop μ-loop Inv-loop2 μ-loop2
 loop2-less c =
@@ -106,7 +100,7 @@ loop2-less c =
     let o = l .loop in
     let b = cutTo (a .spbudget) (r .room-for .result) in
     let q = standing (o .sp) (d .loop2 .dp) (memory (o .rdram) (o .dmem) (o .imem)) (d .loop2 .out) (o .moved) (d .loop2 .words) in
-    less b q _ (dp-round-of b q (i .if1 .left) (y .step3 .ensures)) (dp-lives b q (f .fetches .ensures) (t .if2 .taken))
+    less b q _ (dp-round-of b q (i .if1 .left) (y .step3 .ensures (l .before .length-table .ensures))) (dp-lives b q (f .fetches .ensures) (t .if2 .taken))
 
 loop2-again : tie.Need-loop2-again Inv-loop μ-loop Inv-loop2 μ-loop2
 loop2-again c =
@@ -121,7 +115,7 @@ loop2-again c =
     let o = l .loop in
     let b = cutTo (a .spbudget) (r .room-for .result) in
     let q = standing (o .sp) (d .loop2 .dp) (memory (o .rdram) (o .dmem) (o .imem)) (d .loop2 .out) (o .moved) (d .loop2 .words) in (
-      again b q (dp-round-of b q (i .if1 .left) (y .step3 .ensures)) (dp-lives b q (f .fetches .ensures) (t .if2 .taken)) (d .loop2 .inv .0),
+      again b q (dp-round-of b q (i .if1 .left) (y .step3 .ensures (l .before .length-table .ensures))) (dp-lives b q (f .fetches .ensures) (t .if2 .taken)) (d .loop2 .inv .0),
       y .step3 .kept .1 .1 .1 .1 .1 .0 ∙ d .loop2 .inv .1,
     )
 
