@@ -1,11 +1,13 @@
-/* Loads two words to the end of IMEM, where the second wraps to its start, while a list of three words is fetched; then writes the load as a recording and
- * replays it: as it is, with a wrong expectation, without the read, and with a bad address. Each replay's verdict is shown.
+/* Loads two words to the end of IMEM, where the second wraps to its start, while a list of three words is fetched, of which the last stays queued and is
+ * consumed alone; then writes the load as a recording and replays it: as it is, with a wrong expectation, without the read, and with a bad address. Each
+ * replay's verdict is shown.
  *
  *     rt staticlib ofersky
  *     cc -I c c/example.c target/staticlib/libofersky.a -o example && ./example
  */
 #include "ofersky.h"
 
+#include <inttypes.h>
 #include <stdio.h>
 
 static uint8_t rdram[32768], dmem[4096], imem[4096], words[64];
@@ -30,10 +32,14 @@ static void calls(void) {
     s = written(s, 0x04100004, 0x0118); /* END: three words */
     s = written(s, 0x04040002, 0);      /* not a multiple of 4 */
     s = written(s, 0x04040020, 0);      /* no register */
-    ofersky_ran ran = ofersky_run(s, 100, 100, rdram, sizeof rdram, dmem, sizeof dmem, imem, sizeof imem, words, sizeof words);
+    rdram[0x0110] = 0xE9;               /* its last word is a SYNC_FULL */
+    ofersky_ran ran = ofersky_run(s, 100, 100, 2, rdram, sizeof rdram, dmem, sizeof dmem, imem, sizeof imem, words, sizeof words);
     s = ran.outcome.state;
     printf("moved %u words, SPADDR %08X\n", ran.outcome.answer.count, value_of(s, 0x04040000));
-    printf("handed out %u words, CURRENT %08X\n", ran.words, value_of(s, 0x04100008));
+    printf("consumed %u words, CURRENT %08X\n", ran.words, value_of(s, 0x04100008));
+    printf("queued: %u, the oldest %016" PRIX64 "\n", s.dp.queued, ofersky_queued_word(&s, 0));
+    ofersky_outcome turn = ofersky_consumer_turn(s);
+    printf("consumed %016" PRIX64 ", DP line %u\n", turn.answer.value, turn.state.dp.line);
     s.sp.busy = 2; /* no flag: an unsound state */
     printf("refused by %u\n", ofersky_tick(s, 1).answer.number);
 }

@@ -48,14 +48,20 @@ typedef struct {
     uint32_t current, limit;              /* the running list: the next word's address, and the list's end */
     uint32_t clock, cmdcount, pipecount, tmemcount;
     uint8_t startpending, endpending;
-    uint8_t xbus, freeze, flush, pipebusy;
-    uint8_t wordsleft;                    /* no flag: the words left of the command that is being fetched */
+    uint8_t xbus, freeze, flush;
+    uint8_t pipebusy;                     /* every word fetched turns it on; a SYNC_FULL that is consumed turns it off */
+    uint8_t wordsleft;                    /* no flag: the words left of the command that is being consumed */
     uint8_t line;                         /* the DP interrupt line */
+    uint8_t queued, head;                 /* no flags: how many words are queued, at most 32; the slot of the oldest, below 32 */
 } ofersky_dp;
 
+/* Both engines, and the words that were fetched and not yet consumed. These stand in a ring of 32 slots: the oldest in slot head, the next one in the slot
+ * after it, and slot 0 comes after slot 31. A fetch puts its word behind the last one, and a consumer turn moves head on by one slot. Use
+ * ofersky_queued_word to read them. The head, and slots without a queued word, are representation: no answer depends on them, but memcmp sees them. */
 typedef struct {
     ofersky_sp sp;
     ofersky_dp dp;
+    uint64_t queue[32];
 } ofersky_state;
 
 typedef struct {
@@ -72,7 +78,7 @@ typedef struct {
 /* What a run gives. */
 typedef struct {
     ofersky_outcome outcome; /* its count is the SP's: the words that it moved */
-    uint32_t words;          /* the DP's count: the words that it handed out, which stand in out */
+    uint32_t words;          /* the consumer's count: the words that it took from the queue, which stand in out */
 } ofersky_ran;
 
 /* Where the next drawing word stands: in RDRAM (memory 0) or in DMEM (memory 1), length bytes from offset on. The length is 8, or 0. */
@@ -81,7 +87,8 @@ typedef struct {
 } ofersky_part;
 
 /* A record. The value is the second field of kinds 1, 2, 8 and 9, and the only one of kinds 3, 4 and 5; of kind 10 its upper half is the SP's budget and
- * its lower half the DP's. A field that a kind does not have is 0 in a record that is read, and plays no part in one that is written. */
+ * its lower half that of the DP and of the consumer. A field that a kind does not have is 0 in a record that is read, and plays no part in one that is
+ * written. */
 typedef struct {
     uint64_t value;
     uint32_t address;
@@ -123,8 +130,15 @@ typedef struct {
 ofersky_state ofersky_power_up(void);
 bool ofersky_is_sound(ofersky_state s);
 
+/* The i-th queued word, for i below dp.queued; 0 is the oldest. Any state and any i are safe. */
+static inline uint64_t ofersky_queued_word(const ofersky_state *s, uint32_t i) {
+    return s->queue[(s->dp.head + i) % 32];
+}
+
 /* Registers by address, ticks, a BREAK, the acknowledge of the DP interrupt. The SP registers stand at 0x04040000 to 0x0404001C; the DP registers
- * at 0x04100000 to 0x0410001C, and their mirrors every 0x20 bytes up to 0x041FFFFC. Refusals: 4; for registers then 10, 5. */
+ * at 0x04100000 to 0x0410001C, and their mirrors every 0x20 bytes up to 0x041FFFFC. Bit 6 of DP STATUS says that a word is queued, and only then does a
+ * tick add to the CMD_BUSY counter. A write to DP STATUS that sets FLUSH empties the queue, also where it is on already. Refusals: 4; for registers then
+ * 10, 5. */
 ofersky_outcome ofersky_read_register(ofersky_state s, uint32_t address);
 ofersky_outcome ofersky_write_register(ofersky_state s, uint32_t address, uint32_t value);
 ofersky_outcome ofersky_tick(ofersky_state s, uint32_t n);
@@ -135,16 +149,22 @@ ofersky_outcome ofersky_acknowledge(ofersky_state s);
 ofersky_outcome ofersky_sp_turn(ofersky_state s, uint8_t *rdram, size_t rdram_bytes, uint8_t *dmem, size_t dmem_bytes, uint8_t *imem,
                                 size_t imem_bytes);
 
-/* One DP turn, whose value is the word fetched. Refusals: 1, 2, 4. */
+/* One DP turn: fetches the word at CURRENT into the queue, if a list runs, FREEZE is off and fewer than 32 words are queued. The value is 0, the count 1
+ * if it fetched. Refusals: 1, 2, 4. */
 ofersky_outcome ofersky_dp_turn(ofersky_state s, const uint8_t *rdram, size_t rdram_bytes, const uint8_t *dmem, size_t dmem_bytes);
 
-/* SP turn, DP turn, SP turn, and so on. An engine is passed over where a turn of it would do nothing or its budget is used, and the DP also where out
- * has fewer than 8 bytes left; the run ends when both would be. The DP's words stand in out one after the other from its start on, and the rest of it is
- * as before. Where both engines touch the same bytes, this order decides. Refusals: 1, 2, 3, 4. */
-ofersky_ran ofersky_run(ofersky_state s, uint32_t sp_budget, uint32_t dp_budget, uint8_t *rdram, size_t rdram_bytes, uint8_t *dmem,
-                        size_t dmem_bytes, uint8_t *imem, size_t imem_bytes, uint8_t *out, size_t out_bytes);
+/* One consumer turn: takes the oldest word from the queue, if there is one and FREEZE is off. The value is the word, the count 1; otherwise both are 0.
+ * Here the word counts for its command, and a SYNC_FULL turns PIPE_BUSY off and raises the DP line. Refusal: 4. */
+ofersky_outcome ofersky_consumer_turn(ofersky_state s);
 
-/* Where the word stands that the next DP turn would hand out, or an empty part. It has no number. */
+/* Rounds of SP turn, DP turn, consumer turn. A turn is passed over where it would do nothing or its budget is used, and the consumer's also where out has
+ * fewer than 8 bytes left; this uses no budget. The run ends when all three would be passed over: without room in out the DP still fetches until the queue
+ * is full, and the next run begins with those words. The words consumed stand in out one after the other from its start on, and the rest of it is as
+ * before. Where the SP writes bytes that are yet to be fetched, this order decides. Refusals: 1, 2, 3, 4. */
+ofersky_ran ofersky_run(ofersky_state s, uint32_t sp_budget, uint32_t dp_budget, uint32_t consumer_budget, uint8_t *rdram, size_t rdram_bytes,
+                        uint8_t *dmem, size_t dmem_bytes, uint8_t *imem, size_t imem_bytes, uint8_t *out, size_t out_bytes);
+
+/* Where the word at CURRENT stands, which the next fetch takes, also while the queue is full; or an empty part. It has no number. */
 ofersky_part ofersky_look_ahead(ofersky_state s, const uint8_t *rdram, size_t rdram_bytes, const uint8_t *dmem, size_t dmem_bytes);
 
 /* The record at a place of a recording. Refusals: 9, 7, 8; then 10 and 5 for a register's address, 6 for one of memory. */
@@ -156,7 +176,8 @@ ofersky_reading ofersky_read_record(const uint8_t *recording, size_t recording_b
 ofersky_answer ofersky_write_record(ofersky_record item, uint8_t *buffer, size_t buffer_bytes, size_t place);
 
 /* Replays a recording and writes its listing to out. It stops at a record that is refused, and what the records before it did stays done.
- * Refusals: 9, 1, 2, 3, 4 before the first record; then its records': 7, 8, 10, 5, 6. */
+ * A record of kind 3 is a run with the budgets b, 0, 0; of kind 4 with 0, b, b; of kind 10 with a, b, b. Each has room for 256 words; words that are
+ * still queued then wait for the next run. Refusals: 9, 1, 2, 3, 4 before the first record; then its records': 7, 8, 10, 5, 6. */
 ofersky_replayed ofersky_replay(ofersky_state s, const uint8_t *recording, size_t recording_bytes, uint8_t *rdram, size_t rdram_bytes,
                                 uint8_t *dmem, size_t dmem_bytes, uint8_t *imem, size_t imem_bytes, uint8_t *out, size_t out_bytes);
 

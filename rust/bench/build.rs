@@ -1,5 +1,5 @@
-//! OFERSKY_BEFORE names the folder of an earlier libofersky.a, to be timed beside this one in the same run. All its names are hidden but those of the SP run,
-//! the DP run and the DP turn, which get names of their own.
+//! OFERSKY_BEFORE names the folder of an earlier libofersky.a, to be timed beside this one in the same run. All its names are hidden but those of the calls
+//! that are timed, which get names of their own.
 
 use std::env;
 use std::path::{Path, PathBuf};
@@ -22,7 +22,8 @@ fn main() {
 
 fn rename(from: &Path, to: &Path) {
     let mut objcopy = Command::new("objcopy");
-    for call in ["sp_run", "dp_run", "dp_turn"] {
+    let turns = ["run", "sp_turn", "dp_turn"];
+    for call in turns.iter().chain(&["read_register", "write_register"]) {
         objcopy.arg(format!("--redefine-sym=ofersky_{call}=before_{call}"));
         objcopy.arg(format!("--keep-global-symbol=before_{call}"));
     }

@@ -8,6 +8,7 @@ pub use access::tick;
 pub use access::write_register;
 pub use checks::is_sound;
 pub use checks::power_up;
+pub use engines::consumer_turn;
 pub use engines::dp_turn;
 pub use engines::look_ahead;
 pub use engines::run;

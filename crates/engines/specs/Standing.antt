@@ -1,27 +1,39 @@
 -- Where a merged run stands, by what its loops have in hand, and what it gives where no check declines it.
 use Prim.Native.Nat.{ℕ}
 use mathlib.Core.Path.{_≡_}
+use mathlib.Core.Bool.{false}
 use mathlib.Core.List.{List}
-use Rattle.words.specs.Memory.{Memory}
+use Rattle.words.specs.Memory.{Memory, memory}
 use Rattle.sp.specs.declared.SpState.{SpState}
 use Rattle.dp.specs.declared.DpState.{DpState}
+use Rattle.dp.specs.declared.turns.DpRan.{DpRan}
 use Rattle.machine.specs.declared.State.{State}
 use Rattle.machine.specs.declared.Ran.{Ran}
-use Rattle.machine.specs.Runs.{Budgets, budgets, Run, begin, merged, answered}
+use Rattle.machine.specs.Runs.{sp, Budgets, Run, begin, acts, merged, answered}
 
-abbrev pub both : SpState → DpState → State
-both sp dp = record { sp = sp; dp = dp }
+abbrev pub both : SpState → DpState → List ℕ → State
+both s d queue = record { sp = s; dp = d; queue = queue }
 
-abbrev pub standing : SpState → DpState → Memory → List ℕ → ℕ → ℕ → Run
-standing sp dp m out moved words = record { state = both sp dp; memory = m; out = out; moved = moved; words = words }
+abbrev pub standing : SpState → DpState → List ℕ → Memory → List ℕ → ℕ → ℕ → ℕ → Run
+standing s d queue m out moved fetched words =
+    record { state = both s d queue; memory = m; out = out; moved = moved; fetched = fetched; words = words }
 
--- Budgets of which the DP's is cut to the output's room already
-abbrev pub cutTo : ℕ → ℕ → Budgets
-cutTo spbudget room = record { sp = spbudget; dp = room }
+-- Budgets of which the consumer's is cut to the output's room already
+abbrev pub cutTo : ℕ → ℕ → ℕ → Budgets
+cutTo spbudget dpbudget room = record { sp = spbudget; dp = dpbudget; consumer = room }
 
--- Where a run ends that begins with these registers
-abbrev pub endFrom : SpState → DpState → ℕ → ℕ → Memory → List ℕ → Run
-endFrom sp dp spbudget dpbudget m out = merged (budgets spbudget dpbudget out) (begin (both sp dp) m out)
+-- Where a run ends that begins with these registers and slots
+abbrev pub endFrom : SpState → DpState → List ℕ → ℕ → ℕ → ℕ → Memory → List ℕ → Run
+endFrom s d queue spbudget dpbudget room m out = merged (cutTo spbudget dpbudget room) (begin (both s d queue) m out)
+
+-- What the rounds of the DP and the consumer alone give of a run: r, and the slots and the output at exit. It is the end of the run, whatever the SP
+-- and IMEM are, where the SP's turn is passed over
+abbrev pub Drawn : DpState → (fetched words dpbudget room : ℕ) → (rdram dmem queue out : List ℕ) → DpRan → (queue′ out′ : List ℕ) → Type 0
+Drawn d fetched words dpbudget room rdram dmem queue out r queue′ out′ =
+    (s : SpState) (moved spbudget : ℕ) (imem : List ℕ)
+    → acts (cutTo spbudget dpbudget room) sp (standing s d queue (memory rdram dmem imem) out moved fetched words) ≡ false
+    → (let e = merged (cutTo spbudget dpbudget room) (standing s d queue (memory rdram dmem imem) out moved fetched words) in
+    e ≡ standing s (r .state) queue′ (memory rdram dmem imem) out′ moved (e .fetched) (r .count))
 
 -- The call's r, and memory and output at exit, of a run that ends at q
 pub record EndsAt (q : Run) (r : Ran) (m′ : Memory) (out′ : List ℕ) : Type 0 where

@@ -1,13 +1,12 @@
 -- States cross to a host and back.
 use Prim.Native.Nat.{ℕ, zero, suc}
 use mathlib.Core.Path.{_≡_, refl, sym, ap, _∙_}
-use mathlib.Core.Bool.{Bool, true, false, cond, _&&_}
+use mathlib.Core.Bool.{Bool, true, false}
 use native.Mathlib.Omega.{arith}
-use lib.Dec.{ltb, leb}
 use borrow.Author.Tests.{leb-true}
 use Rattle.words.specs.Bits.{asBit}
 use Rattle.words.specs.Tests.{all}
-use Rattle.words.proofs.Tests.{by, contradiction, and-true, true-and, facts, all-hold}
+use Rattle.words.proofs.Tests.{by, contradiction, and-true, true-and, facts}
 use Rattle.sp.specs.declared.SpState.{SpState}
 use Rattle.sp.specs.Sound.{spSound}
 use Rattle.dp.specs.declared.DpState.{DpState}
@@ -135,7 +134,7 @@ decoded-no-flag : (h : HostState) → flags h ≡ false → decoded h ≡ unsoun
 unfolding decoded
 decoded-no-flag h e = rw e
 
-decoded-flags : (h : HostState) → flags h ≡ true → decoded h ≡ record { sp = spDecoded (h .sp); dp = dpDecoded (h .dp) }
+decoded-flags : (h : HostState) → flags h ≡ true → decoded h ≡ record { sp = spDecoded (h .sp); dp = dpDecoded (h .dp); queue = h .queue }
 unfolding decoded
 decoded-flags h e = rw e
 

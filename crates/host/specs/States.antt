@@ -6,7 +6,7 @@ use lib.Dec.{ltb, leb}
 use Rattle.words.specs.Bits.{asBit}
 use Rattle.words.specs.Tests.{all}
 use Rattle.sp.specs.declared.SpState.{SpState}
-use Rattle.sp.specs.State.{spPowerUp, withLatches, withWaiting}
+use Rattle.sp.specs.State.{spPowerUp, withWaiting}
 use Rattle.dp.specs.declared.DpState.{DpState}
 use Rattle.machine.specs.declared.State.{State}
 use Rattle.machine.specs.declared.Outcome.{Outcome}
@@ -93,6 +93,8 @@ dpDecoded h = record {
   flush = isOn (h .flush);
   pipebusy = isOn (h .pipebusy);
   wordsleft = h .wordsleft;
+  queued = h .queued;
+  head = h .head;
   line = isOn (h .line);
   clock = h .clock;
   cmdcount = h .cmdcount;
@@ -106,7 +108,7 @@ unsound = withSp powerUp (withWaiting spPowerUp 0 false)
 
 -- The state that a call is made on. Bytes that are no flags stand for no state: the call is made on one that is not sound
 unfoldable pub decoded : HostState → State
-decoded h = cond (flags h) (record { sp = spDecoded (h .sp); dp = dpDecoded (h .dp) }) unsound
+decoded h = cond (flags h) (record { sp = spDecoded (h .sp); dp = dpDecoded (h .dp); queue = h .queue }) unsound
 
 -- ---- To a host
 
@@ -152,10 +154,12 @@ dpEncoded s = record {
   pipebusy = asBit (s .pipebusy);
   wordsleft = s .wordsleft;
   line = asBit (s .line);
+  queued = s .queued;
+  head = s .head;
 }
 
 unfoldable pub encoded : State → HostState
-encoded s = record { sp = spEncoded (s .sp); dp = dpEncoded (s .dp) }
+encoded s = record { sp = spEncoded (s .sp); dp = dpEncoded (s .dp); queue = s .queue }
 
 -- What a call gives back that gave o. A state with bytes that are no flags comes back as it went in
 unfoldable pub handed : HostState → Outcome → HostOutcome

@@ -46,15 +46,20 @@ pub struct HostDp {
     pub freeze: u8,
     pub flush: u8,
     pub pipebusy: u8,
-    // No flag: the words left of the command that is being fetched.
+    // No flag: the words left of the command that is being consumed.
     pub wordsleft: u8,
     pub line: u8,
+    // No flags: how many words are queued, and the slot of the oldest.
+    pub queued: u8,
+    pub head: u8,
 }
 
 #[repr(C)]
 pub struct HostState {
     pub sp: HostSp,
     pub dp: HostDp,
+    // The slots of the command queue: its i-th word, the oldest first, stands in slot (head + i) mod 32.
+    pub queue: [u64; 32],
 }
 
 #[repr(C)]
@@ -63,7 +68,7 @@ pub struct HostOutcome {
     pub answer: Answer,
 }
 
-// What a run gives: the answer's count is the SP's, and `words` is the DP's.
+// What a run gives: the answer's count is the SP's, and `words` is the consumer's.
 #[repr(C)]
 pub struct HostRan {
     pub outcome: HostOutcome,

@@ -68,6 +68,7 @@ from-start s m word storing k h l hk =
     record {
       registers = ap (λ (v : World). v .state .sp) e ∙ formula (s .sp) word storing k fits hk ∙ same-after (s .sp) word storing (latched (s .sp) word storing) k;
       dp = ap (λ (v : World). v .state .dp) e;
+      queue = ap (λ (v : World). v .state .queue) e;
       bytes = rw e (bytes (s .sp) word storing m fits (f .multiples .splatch) (f .multiples .ramlatch) (multiples m l) k hk);
       lengths = rw e (memory-length k u m);
       answer = λ b. rw (

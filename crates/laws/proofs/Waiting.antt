@@ -31,14 +31,14 @@ use Rattle.machine.specs.Sound.{powerUp, withSp, sound}
 use Rattle.machine.specs.Address.{inBlock, registerAt, firstCopy, addresses}
 use Rattle.machine.specs.Refusals.{isRegister, registerNumber, accessRefusal, stateRefusal, spRefusal, dpRefusal, accepted, declined, ifRefused}
 use Rattle.machine.specs.Calls.{readAt, writeAt, readRegister, writeRegister, tick, break, acknowledge}
-use Rattle.machine.specs.Turns.{spTurn, dpTurn}
+use Rattle.machine.specs.Turns.{spTurn, dpTurn, consumerTurn}
 use Rattle.machine.specs.Runs.{run}
 use Rattle.machine.proofs.Sound.{facts, power-up-sound}
-use Rattle.machine.proofs.Kept.{either-way, read-kept, write-kept, tick-kept, break-kept, acknowledge-kept, sp-turn-kept, dp-turn-kept, run-kept}
+use Rattle.machine.proofs.Kept.{either-way, read-kept, write-kept, tick-kept, break-kept, acknowledge-kept, sp-turn-kept, dp-turn-kept, consumer-turn-kept, run-kept}
 use Rattle.machine.proofs.Refusals.{run-declined}
 use Rattle.machine.proofs.Runs.{sp-part}
 use Rattle.machine.proofs.Address.{in-block, mirrored, sixteen}
-use Rattle.laws.specs.Waiting.{Event, reads, writes, ticks, breaks, acknowledges, spTurnOver, dpTurnOver, runOver, eventLeaves, traceLeaves, Written, noted, note, lastWritten, writtenBefore, Holds, isLength, lengthWrites, writesLength, movesOf, moves, begins, begun, SameTransfer, Starts, Before, BeginsOnce, TraceWritten}
+use Rattle.laws.specs.Waiting.{Event, reads, writes, ticks, breaks, acknowledges, spTurnOver, dpTurnOver, consumerTurns, runOver, eventLeaves, traceLeaves, Written, noted, note, lastWritten, writtenBefore, Holds, isLength, lengthWrites, writesLength, movesOf, moves, begins, begun, SameTransfer, Starts, Before, BeginsOnce, TraceWritten}
 
 -- ---- What a write does, by the register at its address
 
@@ -266,19 +266,19 @@ turn-moves s m = at (spRefusal s m)
     at zero = refl
     at (suc n) = rw (ne-eqb (suc n) 0 (λ z. absurd (omega arith)))
 
-run-moves : (s : State) (a b : ℕ) (m : Memory) (out : List ℕ)
-    → run s a b m out .outcome .state .sp ≡ spAfter (run s a b m out .outcome .answer .count) (s .sp)
+run-moves : (s : State) (a b c : ℕ) (m : Memory) (out : List ℕ)
+    → run s a b c m out .outcome .state .sp ≡ spAfter (run s a b c m out .outcome .answer .count) (s .sp)
 unfolding spAfter
-run-moves s a b m out = at (spRefusal s m) refl
+run-moves s a b c m out = at (spRefusal s m) refl
   where
-    at : (n : ℕ) → spRefusal s m ≡ n → run s a b m out .outcome .state .sp ≡ spAfter (run s a b m out .outcome .answer .count) (s .sp)
+    at : (n : ℕ) → spRefusal s m ≡ n → run s a b c m out .outcome .state .sp ≡ spAfter (run s a b c m out .outcome .answer .count) (s .sp)
     at zero z =
-        let h = sp-part s m out z a b in
+        let h = sp-part s m out z a b c in
         h .registers ∙ ap (λ (n : ℕ). spAfter n (s .sp)) (sym (h .count))
-    at (suc n) z = rw (run-declined s a b m out n z)
+    at (suc n) z = rw (run-declined s a b c m out n z)
 
 effect : (e : Event) (s : State) → sound s ≡ true → Effect e s
-unfolding readRegister tick break acknowledge dpTurn
+unfolding readRegister tick break acknowledge dpTurn consumerTurn
 effect (reads a) s h = still refl refl (quiet (accessRefusal s a) s (readAt (registerAt a) s) (read-still (registerAt a) s))
 effect (writes a v f) s h = write-effect a v f s h
 effect (ticks n) s h = still refl refl (quiet (stateRefusal s) s _ (nothing (s .sp)))
@@ -286,7 +286,8 @@ effect breaks s h = still refl refl (quiet (stateRefusal s) s _ (others (s .sp) 
 effect acknowledges s h = still refl refl (quiet (stateRefusal s) s _ (nothing (s .sp)))
 effect (spTurnOver m) s h = turned refl (turn-moves s m) (λ w. refl)
 effect (dpTurnOver rdram dmem) s h = still refl refl (quiet (dpRefusal s rdram dmem) s _ (nothing (s .sp)))
-effect (runOver a b m out) s h = turned refl (run-moves s a b m out) (λ w. refl)
+effect consumerTurns s h = still refl refl (quiet (stateRefusal s) s _ (nothing (s .sp)))
+effect (runOver a b c m out) s h = turned refl (run-moves s a b c m out) (λ w. refl)
 
 -- Every call leaves a sound state
 pub event-kept : (e : Event) (s : State) → sound s ≡ true → sound (eventLeaves e s) ≡ true
@@ -297,7 +298,8 @@ event-kept breaks s h = break-kept s h
 event-kept acknowledges s h = acknowledge-kept s h
 event-kept (spTurnOver m) s h = sp-turn-kept s m h
 event-kept (dpTurnOver rdram dmem) s h = dp-turn-kept s rdram dmem h
-event-kept (runOver a b m out) s h = run-kept s a b m out h
+event-kept consumerTurns s h = consumer-turn-kept s h
+event-kept (runOver a b c m out) s h = run-kept s a b c m out h
 
 -- ---- A length word is written
 

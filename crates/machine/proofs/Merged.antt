@@ -7,8 +7,8 @@ use native.Mathlib.Nat.{le-refl, le-of-suc-le-suc}
 use lib.Dec.{ltb}
 use borrow.Author.Tests.{ltb-true, ltb-false}
 use Rattle.words.proofs.Tests.{by, either, and-true, contradiction}
-use Rattle.dp.specs.Turn.{fetches}
-use Rattle.machine.specs.Runs.{Kind, sp, dp, Budgets, Run, acts, took, tried, round, live, rounds, left, merged}
+use Rattle.dp.specs.Turn.{fetches, consumes}
+use Rattle.machine.specs.Runs.{Kind, sp, dp, consumer, Budgets, Run, acts, took, tried, round, live, rounds, left, merged}
 
 -- ---- A turn that is taken, and one that is passed over
 
@@ -20,21 +20,27 @@ pub tried-off : (b : Budgets) (t : Kind) (r : Run) → acts b t r ≡ false → 
 unfolding tried
 tried-off b t r e = ap (λ (c : Bool). cond c (took t r) r) e
 
--- A turn that acts has budget, and its engine does something
+-- A turn that acts has budget, and would do something
 pub sp-acts : (b : Budgets) (r : Run) → acts b sp r ≡ true → (r .moved < b .sp) × (r .state .sp .busy ≡ true)
 sp-acts b r e =
     let p = and-true (ltb (r .moved) (b .sp)) (r .state .sp .busy) e in
     (ltb-true (r .moved) (b .sp) (p .0), p .1)
 
-pub dp-acts : (b : Budgets) (r : Run) → acts b dp r ≡ true → (r .words < b .dp) × (fetches (r .state .dp) ≡ true)
+pub dp-acts : (b : Budgets) (r : Run) → acts b dp r ≡ true → (r .fetched < b .dp) × (fetches (r .state .dp) ≡ true)
 dp-acts b r e =
-    let p = and-true (ltb (r .words) (b .dp)) (fetches (r .state .dp)) e in
-    (ltb-true (r .words) (b .dp) (p .0), p .1)
+    let p = and-true (ltb (r .fetched) (b .dp)) (fetches (r .state .dp)) e in
+    (ltb-true (r .fetched) (b .dp) (p .0), p .1)
 
--- Neither of two
-pub neither : (a b : Bool) → a || b ≡ false → (a ≡ false) × (b ≡ false)
-neither true b e = contradiction refl e
-neither false b e = (refl, e)
+pub consumer-acts : (b : Budgets) (r : Run) → acts b consumer r ≡ true → (r .words < b .consumer) × (consumes (r .state .dp) ≡ true)
+consumer-acts b r e =
+    let p = and-true (ltb (r .words) (b .consumer)) (consumes (r .state .dp)) e in
+    (ltb-true (r .words) (b .consumer) (p .0), p .1)
+
+-- None of three
+pub none-of : (a b c : Bool) → a || b || c ≡ false → (a ≡ false) × (b ≡ false) × (c ≡ false)
+none-of true b c e = contradiction refl e
+none-of false true c e = contradiction refl e
+none-of false false c e = (refl, refl, e)
 
 -- A turn that is passed over is without budget, or would do nothing
 pub passed : (n b : ℕ) (on : Bool) → ltb n b && on ≡ false → {P : Type 0} → (b ≤ n → P) → (on ≡ false → P) → P
@@ -44,6 +50,7 @@ passed n b on e f g = by (ltb n b) (λ l. g (rw l at e)) (λ l. f (ltb-false n b
 used : (b : Budgets) (t : Kind) (r : Run) → acts b t r ≡ true → left b (took t r) < left b r
 used b sp r e = let h = sp-acts b r e .0 in omega arith
 used b dp r e = let h = dp-acts b r e .0 in omega arith
+used b consumer r e = let h = consumer-acts b r e .0 in omega arith
 
 not-more : (b : Budgets) (t : Kind) (r : Run) → left b (tried b t r) ≤ left b r
 unfolding tried
@@ -57,9 +64,21 @@ fewer b t r e = rw (tried-on b t r e) (used b t r e)
 pub round-less : (b : Budgets) (r : Run) → live b r ≡ true → left b (round b r) < left b r
 unfolding round
 round-less b r e =
-    let g = not-more b dp (tried b sp r) in
-    by (acts b sp r) (λ p. let h = fewer b sp r p in omega arith)
-    (λ p. rw (tried-off b sp r p) (by (acts b dp r) (fewer b dp r) (λ q. contradiction e (rw (p, q)))))
+    let x = tried b sp r in
+    let y = tried b dp x in
+    let f = not-more b dp x in
+    let g = not-more b consumer y in
+    by (acts b sp r) (λ p. lower (left b (tried b consumer y)) (left b y) (left b x) (left b r) g f (fewer b sp r p))
+    (λ p.
+    rw (tried-off b sp r p)
+    (by (acts b dp r) (λ q. below (left b (tried b consumer (tried b dp r))) (left b (tried b dp r)) (left b r) (not-more b consumer (tried b dp r)) (fewer b dp r q))
+    (λ q. rw (tried-off b dp r q) (by (acts b consumer r) (fewer b consumer r) (λ k. contradiction e (rw (p, q, k)))))))
+  where
+    below : (a b c : ℕ) → a ≤ b → b < c → a < c
+    below a b c f g = omega arith
+
+    lower : (a b c d : ℕ) → a ≤ b → b ≤ c → c < d → a < d
+    lower a b c d f g h = omega arith
 
 -- ---- Rounds
 
@@ -124,7 +143,7 @@ unfolding rounds round
 rounds-keep zero b P k r h = h
 rounds-keep (suc n) b P k r h =
     either P (live b r) (rounds n b (round b r)) r
-    (λ _. rounds-keep n b P k (round b r) (tried-keeps b P k dp (tried b sp r) (tried-keeps b P k sp r h)))
+    (λ _. rounds-keep n b P k (round b r) (tried-keeps b P k consumer (tried b dp (tried b sp r)) (tried-keeps b P k dp (tried b sp r) (tried-keeps b P k sp r h))))
     (λ _. h)
 
 pub merged-keeps : (b : Budgets) (P : Run → Type 0) → Keeps b P → (r : Run) → P r → P (merged b r)

@@ -10,7 +10,7 @@ use Rattle.sp.specs.Formula.{beforeWord, afterLast, afterWords}
 use Rattle.dp.specs.Sound.{dpSound}
 use Rattle.dp.specs.Lists.{startWritten, endWritten, listStarted, waitingStarted}
 use Rattle.dp.specs.Registers.{modesWritten, flushed, dpStatusWritten}
-use Rattle.dp.specs.Turn.{framed, commandLength, advanced, followed, dpNext}
+use Rattle.dp.specs.Turn.{enqueued, advanced, followed, fetchNext, commandLength, framed, dequeued, consumeNext}
 use Rattle.machine.specs.Sound.{sound}
 use Rattle.machine.specs.Address.{registerAt}
 use Rattle.machine.specs.Refusals.{accessRefusal}
@@ -24,7 +24,7 @@ unfolding quickAll quick examples after afterWords beforeWord afterLast wordAt
     writeRegister readRegister accessRefusal registerAt sound spSound dpSound
     lengthWritten started wordsLeft runningWords transferWords spAfter spNext ended
     startWritten endWritten listStarted waitingStarted modesWritten flushed dpStatusWritten
-    dpNext wordValue framed commandLength advanced followed
+    fetchNext wordValue enqueued advanced followed consumeNext dequeued framed commandLength
 computed = refl
 
 -- M1 to M12

@@ -13,16 +13,18 @@ use Rattle.words.specs.Memory.{Memory, memory, bytesAt, loadWord, wordValue}
 use Rattle.words.proofs.Tests.{by, either, contradiction, and-true, true-and, three}
 use Rattle.sp.specs.Turn.{spAfter, memoryAfter}
 use Rattle.sp.specs.Left.{wordsLeft}
-use Rattle.dp.specs.Turn.{fetches, listWord, nextListWord, dpNext}
+use Rattle.dp.specs.Queue.{oldest, putLast}
+use Rattle.dp.specs.Turn.{fetches, listWord, nextListWord, fetchNext, fetchRing, consumeStep}
+use Rattle.dp.specs.Turn as DpTurn
 use Rattle.machine.specs.declared.State.{State}
 use Rattle.machine.specs.declared.Outcome.{Outcome}
-use Rattle.machine.specs.Sound.{powerUp, withSp, withDp, sound}
-use Rattle.machine.specs.Refusals.{rdramAllowed, bankAllowed, dpRefusal, accepted}
+use Rattle.machine.specs.Sound.{powerUp, withSp, withDp, withRing, sound}
+use Rattle.machine.specs.Refusals.{rdramAllowed, bankAllowed, stateRefusal, dpRefusal, accepted}
 use Rattle.machine.specs.Calls.{readRegister, writeRegister}
-use Rattle.machine.specs.Turns.{dpTurn}
+use Rattle.machine.specs.Turns.{dpTurn, consumerTurn}
 use Rattle.laws.specs.World.{spLengths}
 use Rattle.laws.proofs.Turns.{sp-sound, lengths-after}
-use Rattle.marked.specs.Marked.{Line, write, reads, spMoves, dpGives, dpLine, puts, gives, holds, zeros, holdsAll}
+use Rattle.marked.specs.Marked.{Line, write, reads, spMoves, dpFetches, consumes, dpLine, puts, gives, holds, zeros, holdsAll}
 use Rattle.marked.proofs.After.{moving-is, after, after-is}
 
 -- ---- What is known of RDRAM
@@ -63,7 +65,9 @@ word-is f s m k x c =
 
 -- What a turn gives over a word
 abbrev pub turned : State → List ℕ → Outcome
-turned s w = accepted (withDp s (dpNext (s .dp) w)) (cond (fetches (s .dp)) (wordValue w) 0) (asBit (fetches (s .dp)))
+turned s w =
+    accepted (withRing s (fetchNext (s .dp)) (cond (fetches (s .dp)) (putLast (s .dp) (s .queue) (wordValue w)) (s .queue))) 0
+    (asBit (fetches (s .dp)))
 
 -- The tests under which that word is known
 abbrev pub fetchKnown : State → Bool
@@ -72,12 +76,24 @@ fetchKnown s = sound s && not (s .dp .xbus) && leb (s .dp .current + 8) rdramLen
 -- The turn of the call
 turn-is : (f : ℕ → ℕ) (s : State) (m : Memory) → spLengths m ≡ true → Stands (bytes f) m → fetchKnown s ≡ true
     → dpTurn s (m .rdram) (m .dmem) ≡ turned s (wordAt f (s .dp .current))
-unfolding dpTurn dpRefusal
+unfolding dpTurn dpRefusal fetchRing
 turn-is f s m l k e =
     let lent = three (rdramAllowed (length (m .rdram))) (bankAllowed (length (m .dmem))) (bankAllowed (length (m .imem))) l in
     let tests = three (sound s) (not (s .dp .xbus)) (leb (s .dp .current + 8) rdramLength) e in
     let word = word-is f s m k (not-true (s .dp .xbus) (tests .1)) (leb-true (s .dp .current + 8) rdramLength (tests .2)) in
     rw (lent .0, lent .1, tests .0, word)
+
+-- ---- Consumer turns
+
+-- What one gives on a sound state
+abbrev pub taken : State → Outcome
+taken s =
+    accepted (withDp s (consumeStep (s .dp) (s .queue))) (cond (DpTurn.consumes (s .dp)) (oldest (s .dp) (s .queue)) 0)
+    (asBit (DpTurn.consumes (s .dp)))
+
+consumer-is : (s : State) → sound s ≡ true → consumerTurn s ≡ taken s
+unfolding consumerTurn stateRefusal
+consumer-is s h = rw h
 
 -- ---- Bytes that the owner puts
 
@@ -110,10 +126,13 @@ quick (reads a v ∷ ls) s k =
     let x = readRegister s a in
     gives (x .answer) v 0 && quick ls (x .state) k
 quick (spMoves n ∷ ls) s k = sound s && leb n (wordsLeft (s .sp)) && quick ls (withSp s (after n (s .sp))) unknown
-quick (dpGives v n ∷ ls) s (bytes f) =
+quick (dpFetches ∷ ls) s (bytes f) =
     let x = turned s (wordAt f (s .dp .current)) in
-    fetchKnown s && (gives (x .answer) v n && quick ls (x .state) (bytes f))
-quick (dpGives v n ∷ ls) s unknown = false
+    fetchKnown s && (gives (x .answer) 0 1 && quick ls (x .state) (bytes f))
+quick (dpFetches ∷ ls) s unknown = false
+quick (consumes v ∷ ls) s k =
+    let x = taken s in
+    sound s && (gives (x .answer) v 1 && quick ls (x .state) k)
 quick (dpLine up ∷ ls) s k = Bool·beq (s .dp .line) up && quick ls s k
 quick (puts a b ∷ ls) s (bytes f) = ltb a rdramLength && quick ls s (bytes (knownByte a b f))
 quick (puts a b ∷ ls) s unknown = false
@@ -138,13 +157,17 @@ accepts (spMoves n ∷ ls) s k m l st e =
     let rest : quick ls (withSp s (spAfter n (s .sp))) unknown ≡ true = rw (after-is n (s .sp) (sp-sound s (p .0))) at (p .2) in
     moving-is n (holds ls) s m (p .0) l (leb-true n (wordsLeft (s .sp)) (p .1))
     ∙ accepts ls (withSp s (spAfter n (s .sp))) unknown (memoryAfter n (s .sp) m) (lengths-after n (s .sp) m l) tt rest
-accepts (dpGives v n ∷ ls) s (bytes f) m l st e =
+accepts (dpFetches ∷ ls) s (bytes f) m l st e =
     let x = turned s (wordAt f (s .dp .current)) in
-    let p = and-true (fetchKnown s) (gives (x .answer) v n && quick ls (x .state) (bytes f)) e in
+    let p = and-true (fetchKnown s) (gives (x .answer) 0 1 && quick ls (x .state) (bytes f)) e in
     rw (turn-is f s m l st (p .0))
-    (then (gives (x .answer) v n) (quick ls (x .state) (bytes f)) (holds ls (x .state) m) (accepts ls (x .state) (bytes f) m l st)
+    (then (gives (x .answer) 0 1) (quick ls (x .state) (bytes f)) (holds ls (x .state) m) (accepts ls (x .state) (bytes f) m l st)
     (p .1))
-accepts (dpGives v n ∷ ls) s unknown m l st e = contradiction e refl
+accepts (dpFetches ∷ ls) s unknown m l st e = contradiction e refl
+accepts (consumes v ∷ ls) s k m l st e =
+    let x = taken s in
+    let p = and-true (sound s) (gives (x .answer) v 1 && quick ls (x .state) k) e in
+    rw (consumer-is s (p .0)) (then (gives (x .answer) v 1) (quick ls (x .state) k) (holds ls (x .state) m) (accepts ls (x .state) k m l st) (p .1))
 accepts (dpLine up ∷ ls) s k m l st e =
     then (Bool·beq (s .dp .line) up) (quick ls s k) (holds ls s m) (accepts ls s k m l st) e
 accepts (puts a b ∷ ls) s (bytes f) m l st e =

@@ -1,4 +1,5 @@
--- The twelve marked examples of paper 01, M8 to M10 as request (iii) has them, as one table, and when an example holds: every call answers as the table says.
+-- The twelve marked examples of paper 01, M8 to M10 as request (iii) has them and M9, M11 and M12 read as (ix) says, as one table, and when an example holds:
+-- every call answers as the table says.
 use Prim.Native.Nat.{ℕ, zero, suc}
 use mathlib.Core.Bool.{Bool, true, false, _&&_, Bool·beq}
 use mathlib.Core.List.{List, [], _∷_}
@@ -9,7 +10,7 @@ use Rattle.machine.specs.declared.State.{State}
 use Rattle.machine.specs.declared.Answer.{Answer}
 use Rattle.machine.specs.Sound.{powerUp}
 use Rattle.machine.specs.Calls.{readRegister, writeRegister}
-use Rattle.machine.specs.Turns.{spTurn, spTurnMemory, dpTurn}
+use Rattle.machine.specs.Turns.{spTurn, spTurnMemory, dpTurn, consumerTurn}
 
 -- ---- Lines
 
@@ -21,8 +22,10 @@ pub data Line : Type 0 where
   reads : ℕ → ℕ → Line
   -- So many SP turns, of which each moves a word
   spMoves : ℕ → Line
-  -- A DP turn, and the value and the count that it gives
-  dpGives : ℕ → ℕ → Line
+  -- A DP turn that fetches a word
+  dpFetches : Line
+  -- A consumer turn, and the word that it hands out
+  consumes : ℕ → Line
   -- The DP line is up, or down
   dpLine : Bool → Line
   -- The owner of the lent RDRAM puts a byte there: its address and the byte
@@ -49,9 +52,12 @@ holds (reads a v ∷ ls) s m =
     let x = readRegister s a in
     gives (x .answer) v 0 && holds ls (x .state) m
 holds (spMoves n ∷ ls) s m = moving n (holds ls) s m
-holds (dpGives v n ∷ ls) s m =
+holds (dpFetches ∷ ls) s m =
     let x = dpTurn s (m .rdram) (m .dmem) in
-    gives (x .answer) v n && holds ls (x .state) m
+    gives (x .answer) 0 1 && holds ls (x .state) m
+holds (consumes v ∷ ls) s m =
+    let x = consumerTurn s in
+    gives (x .answer) v 1 && holds ls (x .state) m
 holds (dpLine up ∷ ls) s m = Bool·beq (s .dp .line) up && holds ls s m
 holds (puts a b ∷ ls) s m = holds ls s (memory (set (m .rdram) a b) (m .dmem) (m .imem))
 
@@ -122,16 +128,16 @@ examples =
     ∷ (reads SEMAPHORE 0 ∷ reads SEMAPHORE 1 ∷ write SEMAPHORE 1 ∷ reads SEMAPHORE 0 ∷ [])
     -- M8
     ∷ (write START 0x2000 ∷ write END 0x2000 ∷ reads DPSTATUS 0x80 ∷ [])
-    -- M9
+    -- M9: a turn is a fetch and a consumer turn
     ∷ (write START 0x2000 ∷ write END 0x2018 ∷ write START 0x3000 ∷ write END 0x3008 ∷ reads DPSTATUS 0x780
-    ∷ dpGives 0 1 ∷ dpGives 0 1 ∷ dpGives 0 1 ∷ reads CURRENT 0x3000 ∷ reads DPSTATUS 0x1A8 ∷ [])
+    ∷ dpFetches ∷ consumes 0 ∷ dpFetches ∷ consumes 0 ∷ dpFetches ∷ consumes 0 ∷ reads CURRENT 0x3000 ∷ reads DPSTATUS 0x1A8 ∷ [])
     -- M10
     ∷ (write DPSTATUS 8 ∷ write START 0x2000 ∷ write END 0x2008 ∷ reads DPSTATUS 0x682
     ∷ write DPSTATUS 4 ∷ reads DPSTATUS 0x180 ∷ [])
-    -- M11
+    -- M11: as in M9
     ∷ (puts 0x2000 0xE9 ∷ write START 0x2000 ∷ write END 0x2008 ∷ dpLine false
-    ∷ dpGives 0xE900000000000000 1 ∷ dpLine true ∷ reads DPSTATUS 0x80 ∷ [])
-    -- M12
-    ∷ (write START 0x2000 ∷ write END 0x2018 ∷ dpGives 0 1
+    ∷ dpFetches ∷ consumes 0xE900000000000000 ∷ dpLine true ∷ reads DPSTATUS 0x80 ∷ [])
+    -- M12: one fetch
+    ∷ (write START 0x2000 ∷ write END 0x2018 ∷ dpFetches
     ∷ write DPSTATUS 0x20 ∷ reads CURRENT 0x2008 ∷ reads DPSTATUS 0xAC ∷ [])
     ∷ []

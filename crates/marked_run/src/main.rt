@@ -1,5 +1,6 @@
 // Drives the machine through the twelve marked examples by its public calls, and prints what it reads: a line for each example, numbers in
-// hexadecimal. The expected output holds the values that paper 01 gives, and request (iii) for M8 to M10.
+// hexadecimal. The expected output holds the values that paper 01 gives, and request (iii) for M8 to M10. In M9 and M11 a turn is a fetch and a consumer
+// turn; in M12 it is a fetch.
 use libc::STDOUT_FILENO;
 use machine::Outcome;
 use machine::State;
@@ -94,11 +95,16 @@ fn sp_turns(s: State, n: u32, rdram: &mut [u8], dmem: &mut [u8], imem: &mut [u8]
     state
 }
 
+fn fetch(s: State, rdram: &[u8], dmem: &[u8]) -> State {
+    after(engines::dp_turn(s, rdram, dmem))
+}
+
+// Turns that each are a fetch and a consumer turn.
 fn dp_turns(s: State, n: u32, rdram: &[u8], dmem: &[u8]) -> State {
     let mut state = s;
     let mut left = n;
     while 0 < left {
-        state = after(engines::dp_turn(state, rdram, dmem));
+        state = after(engines::consumer_turn(fetch(state, rdram, dmem)));
         left -= 1;
     }
     state
@@ -133,7 +139,7 @@ fn m3(s: State, rdram: &mut [u8], dmem: &mut [u8], imem: &mut [u8]) {
 // A run of the SP with the largest budget; shows its count.
 fn whole_run(s: State, rdram: &mut [u8], dmem: &mut [u8], imem: &mut [u8]) -> State {
     let mut none = [0u8; 8];
-    let ran = engines::run(s, 0xFFFFFFFF, 0, rdram, dmem, imem, &mut none);
+    let ran = engines::run(s, 0xFFFFFFFF, 0, 0, rdram, dmem, imem, &mut none);
     let o = ran.outcome;
     let answer = o.answer;
     show(answer.count as u64);
@@ -232,12 +238,7 @@ fn m11(rdram: &mut [u8], dmem: &[u8]) {
 // FLUSH.
 fn m12(rdram: &[u8], dmem: &[u8]) {
     io::write_all(STDOUT_FILENO, b"\nM12");
-    let s = dp_turns(
-        write_list(checks::power_up(), 0x2000, 0x2018),
-        1,
-        rdram,
-        dmem,
-    );
+    let s = fetch(write_list(checks::power_up(), 0x2000, 0x2018), rdram, dmem);
     let s = read(write(s, DP_STATUS, 0x20), CURRENT);
     read(s, DP_STATUS);
     io::write_all(STDOUT_FILENO, b"\n");

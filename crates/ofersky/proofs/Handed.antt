@@ -30,13 +30,13 @@ pub handed-given : (h : HostState) {s : State} {o : Outcome} {r : HostOutcome} (
 handed-given h call d e g = g ∙ ap (handed h) (e ∙ ap call d)
 
 -- A run, which gives two counts
-pub run-given : (h : HostState) {a b : ℕ} {m m′ : Memory} {out out′ : List ℕ} {s : State} {r : Ran} {o : HostOutcome}
-    → s ≡ decoded h → RunGives s a b m out r m′ out′ → o ≡ handed h (r .outcome)
-    → (record { outcome = o; words = r .words } ≡ ranHanded h (run (decoded h) a b m out))
-    × ((m′ ≡ endOfRun (decoded h) a b m out .memory) × (out′ ≡ endOfRun (decoded h) a b m out .out))
+pub run-given : (h : HostState) {a b c : ℕ} {m m′ : Memory} {out out′ : List ℕ} {s : State} {r : Ran} {o : HostOutcome}
+    → s ≡ decoded h → RunGives s a b c m out r m′ out′ → o ≡ handed h (r .outcome)
+    → (record { outcome = o; words = r .words } ≡ ranHanded h (run (decoded h) a b c m out))
+    × ((m′ ≡ endOfRun (decoded h) a b c m out .memory) × (out′ ≡ endOfRun (decoded h) a b c m out .out))
 unfolding ranHanded
-run-given h {a} {b} {m} {m′} {out} {out′} {s} {r} {o} d g e =
-    let q : RunGives (decoded h) a b m out r m′ out′ = subst (λ (t : State). RunGives t a b m out r m′ out′) d g in
+run-given h {a} {b} {c} {m} {m′} {out} {out′} {s} {r} {o} d g e =
+    let q : RunGives (decoded h) a b c m out r m′ out′ = subst (λ (t : State). RunGives t a b c m out r m′ out′) d g in
     ((λ i. record { outcome = (e ∙ ap (λ (x : Ran). handed h (x .outcome)) (q .given)) i; words = q .given i .words }), (q .bytes, q .output))
 
 -- ---- The look: a part of n bytes as the code hands it over, by what XBUS selects

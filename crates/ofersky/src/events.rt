@@ -7,6 +7,7 @@ use host::HostState;
 ghost use mathlib.Core.Path.{_≡_};
 ghost use Rattle.machine.specs.Sound.{powerUp, sound};
 ghost use Rattle.machine.specs.Calls.{readRegister, writeRegister, tick, break, acknowledge};
+ghost use Rattle.machine.specs.Turns.{consumerTurn};
 ghost use Rattle.host.specs.States.{decoded, encoded, handed};
 
 #[no_mangle]
@@ -56,4 +57,11 @@ pub extern "C" fn ofersky_acknowledge(s: HostState) -> HostOutcome
     ensures { λ r. ⌜ r ≡ handed s (acknowledge (decoded s)) ⌝ }
 {
     handed(s, access::acknowledge(decoded(s)))
+}
+
+#[no_mangle]
+pub extern "C" fn ofersky_consumer_turn(s: HostState) -> HostOutcome
+    ensures { λ r. ⌜ r ≡ handed s (consumerTurn (decoded s)) ⌝ }
+{
+    handed(s, engines::consumer_turn(decoded(s)))
 }

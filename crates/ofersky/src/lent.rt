@@ -44,19 +44,29 @@ pub extern "C" fn ofersky_run(
     s: HostState,
     spbudget: u32,
     dpbudget: u32,
+    consumerbudget: u32,
     rdram: &mut [u8],
     dmem: &mut [u8],
     imem: &mut [u8],
     out: &mut [u8],
 ) -> HostRan
-    ensures given { λ r. ⌜ r ≡ ranHanded s (run (decoded s) spbudget dpbudget
+    ensures given { λ r. ⌜ r ≡ ranHanded s (run (decoded s) spbudget dpbudget consumerbudget
         (memory (now (rdram .entry)) (now (dmem .entry)) (now (imem .entry))) (now (out .entry))) ⌝ }
     ensures bytes { λ _. ⌜ memory (now (rdram .exit)) (now (dmem .exit)) (now (imem .exit))
-        ≡ endOfRun (decoded s) spbudget dpbudget (memory (now (rdram .entry)) (now (dmem .entry)) (now (imem .entry))) (now (out .entry)) .memory ⌝ }
+        ≡ endOfRun (decoded s) spbudget dpbudget consumerbudget (memory (now (rdram .entry)) (now (dmem .entry)) (now (imem .entry))) (now (out .entry)) .memory ⌝ }
     ensures output { λ _. ⌜ now (out .exit)
-        ≡ endOfRun (decoded s) spbudget dpbudget (memory (now (rdram .entry)) (now (dmem .entry)) (now (imem .entry))) (now (out .entry)) .out ⌝ }
+        ≡ endOfRun (decoded s) spbudget dpbudget consumerbudget (memory (now (rdram .entry)) (now (dmem .entry)) (now (imem .entry))) (now (out .entry)) .out ⌝ }
 {
-    let ran = engines::run(decoded(s), spbudget, dpbudget, rdram, dmem, imem, out);
+    let ran = engines::run(
+        decoded(s),
+        spbudget,
+        dpbudget,
+        consumerbudget,
+        rdram,
+        dmem,
+        imem,
+        out,
+    );
     let done = ran.outcome;
     HostRan {
         outcome: handed(s, done),

@@ -89,6 +89,8 @@ fn dp_decoded(h: HostDp) -> DpState
         flush: 0 < h.flush,
         pipebusy: 0 < h.pipebusy,
         wordsleft: h.wordsleft,
+        queued: h.queued,
+        head: h.head,
         line: 0 < h.line,
         clock: h.clock,
         cmdcount: h.cmdcount,
@@ -104,7 +106,11 @@ fn unsound() -> State
     let mut sp = SpState::power_up();
     sp.full = true;
     let dp = DpState::power_up();
-    State { sp, dp }
+    State {
+        sp,
+        dp,
+        queue: [0; 32],
+    }
 }
 
 // The state that a call is made on; an unsound one where a flag is neither 0 nor 1.
@@ -116,7 +122,8 @@ pub(crate) fn decoded(h: HostState) -> State
         let hdp = h.dp;
         let sp = sp_decoded(hsp);
         let dp = dp_decoded(hdp);
-        return State { sp, dp };
+        let queue = h.queue;
+        return State { sp, dp, queue };
     }
     unsound()
 }
@@ -168,6 +175,8 @@ fn dp_encoded(s: DpState) -> HostDp
         pipebusy: s.pipebusy as u8,
         wordsleft: s.wordsleft,
         line: s.line as u8,
+        queued: s.queued,
+        head: s.head,
     }
 }
 
@@ -178,7 +187,8 @@ pub(crate) fn encoded(s: State) -> HostState
     let sdp = s.dp;
     let sp = sp_encoded(ssp);
     let dp = dp_encoded(sdp);
-    HostState { sp, dp }
+    let queue = s.queue;
+    HostState { sp, dp, queue }
 }
 
 // What a call gives back to its host. A state with bytes that are no flags comes back as it went in.

@@ -58,14 +58,14 @@ unfolding after
 keeps-sound None w f e = e
 keeps-sound (Write a v) w f e = calls-keep-sound (w .state) e .write a v (f .1)
 keeps-sound (Read a v) w f e = calls-keep-sound (w .state) e .read a
-keeps-sound (SpRun budget) w f e = calls-keep-sound (w .state) e .run budget 0 (w .memory) room
-keeps-sound (DpRun budget) w f e = calls-keep-sound (w .state) e .run 0 budget (w .memory) room
+keeps-sound (SpRun budget) w f e = calls-keep-sound (w .state) e .run budget 0 0 (w .memory) room
+keeps-sound (DpRun budget) w f e = calls-keep-sound (w .state) e .run 0 budget budget (w .memory) room
 keeps-sound (Tick n) w f e = calls-keep-sound (w .state) e .tick n
 keeps-sound Break w f e = calls-keep-sound (w .state) e .break
 keeps-sound Acknowledge w f e = calls-keep-sound (w .state) e .acknowledge
 keeps-sound (Store a word) w f e = e
 keeps-sound (Check a word) w f e = e
-keeps-sound (Run a b) w f e = calls-keep-sound (w .state) e .run a b (w .memory) room
+keeps-sound (Run a b) w f e = calls-keep-sound (w .state) e .run a b b (w .memory) room
 
 pub all-keep-sound : (rs : List Record) (w : World) → AllFit rs → sound (w .state) ≡ true → sound (afterAll rs w .state) ≡ true
 unfolding afterAll
@@ -75,13 +75,13 @@ all-keep-sound (r ∷ rs) w f e = all-keep-sound rs (after r w) (f .1) (keeps-so
 -- ---- Lengths of memory
 
 -- A run, declined or not
-run-length : (s : State) (spbudget dpbudget : ℕ) (m : Memory) (p : Place)
-    → length (bytesOf p (endOfRun s spbudget dpbudget m room .memory)) ≡ length (bytesOf p m)
-run-length s spbudget dpbudget m p = go (spRefusal s m) refl
+run-length : (s : State) (a b c : ℕ) (m : Memory) (p : Place)
+    → length (bytesOf p (endOfRun s a b c m room .memory)) ≡ length (bytesOf p m)
+run-length s a b c m p = go (spRefusal s m) refl
   where
-    go : (n : ℕ) → spRefusal s m ≡ n → length (bytesOf p (endOfRun s spbudget dpbudget m room .memory)) ≡ length (bytesOf p m)
-    go zero z = run-ends s m room z spbudget dpbudget .places p
-    go (suc n) z = rw (run-stays s spbudget dpbudget m room n z)
+    go : (n : ℕ) → spRefusal s m ≡ n → length (bytesOf p (endOfRun s a b c m room .memory)) ≡ length (bytesOf p m)
+    go zero z = run-ends s m room z a b c .places p
+    go (suc n) z = rw (run-stays s a b c m room n z)
 
 store-at-length : (a word : ℕ) (m : Memory) (p : Place) → length (bytesOf p (storeAt a word m)) ≡ length (bytesOf p m)
 unfolding storeAt
@@ -92,14 +92,14 @@ unfolding after
 keeps-lengths None w p = refl
 keeps-lengths (Write a v) w p = refl
 keeps-lengths (Read a v) w p = refl
-keeps-lengths (SpRun budget) w p = run-length (w .state) budget 0 (w .memory) p
-keeps-lengths (DpRun budget) w p = run-length (w .state) 0 budget (w .memory) p
+keeps-lengths (SpRun budget) w p = run-length (w .state) budget 0 0 (w .memory) p
+keeps-lengths (DpRun budget) w p = run-length (w .state) 0 budget budget (w .memory) p
 keeps-lengths (Tick n) w p = refl
 keeps-lengths Break w p = refl
 keeps-lengths Acknowledge w p = refl
 keeps-lengths (Store a word) w p = store-at-length a word (w .memory) p
 keeps-lengths (Check a word) w p = refl
-keeps-lengths (Run a b) w p = run-length (w .state) a b (w .memory) p
+keeps-lengths (Run a b) w p = run-length (w .state) a b b (w .memory) p
 
 pub all-keep-lengths : (rs : List Record) (w : World) (p : Place) → length (bytesOf p (afterAll rs w .memory)) ≡ length (bytesOf p (w .memory))
 unfolding afterAll
@@ -121,14 +121,14 @@ pub succeeds : (r : Record) (w : World) → addressNumber r ≡ 0 → spRefusal 
 succeeds None w h z = refl
 succeeds (Write a v) w h z = write-answers (w .state) a v .number ∙ access-passes (w .state) a (sp-checked (w .state) (w .memory) z) h
 succeeds (Read a v) w h z = read-answers (w .state) a .number ∙ access-passes (w .state) a (sp-checked (w .state) (w .memory) z) h
-succeeds (SpRun budget) w h z = run-answers (w .state) budget 0 (w .memory) room .number ∙ z
-succeeds (DpRun budget) w h z = run-answers (w .state) 0 budget (w .memory) room .number ∙ z
+succeeds (SpRun budget) w h z = run-answers (w .state) budget 0 0 (w .memory) room .number ∙ z
+succeeds (DpRun budget) w h z = run-answers (w .state) 0 budget budget (w .memory) room .number ∙ z
 succeeds (Tick n) w h z = tick-answers (w .state) n .number ∙ state-passes (w .state) (sp-checked (w .state) (w .memory) z)
 succeeds Break w h z = break-answers (w .state) .number ∙ state-passes (w .state) (sp-checked (w .state) (w .memory) z)
 succeeds Acknowledge w h z = acknowledge-answers (w .state) .number ∙ state-passes (w .state) (sp-checked (w .state) (w .memory) z)
 succeeds (Store a word) w h z = refl
 succeeds (Check a word) w h z = refl
-succeeds (Run a b) w h z = run-answers (w .state) a b (w .memory) room .number ∙ z
+succeeds (Run a b) w h z = run-answers (w .state) a b b (w .memory) room .number ∙ z
 
 -- A record leaves an input that passes the checks again
 passes-again : (r : Record) (w : World) → Fits r → spRefusal (w .state) (w .memory) ≡ 0 → spRefusal (after r w .state) (after r w .memory) ≡ 0

@@ -33,13 +33,13 @@ storeAt a word m = withBytes (placeAt a) (storeWord (bytesOf (placeAt a) m) (off
 abbrev pub room : List ℕ
 room = replicate 2048 0
 
--- A run of a replay, with the SP's and the DP's budget, and what it leaves
+-- A run of a replay, with the SP's and the DP's budget, and what it leaves. The consumer has the DP's budget too
 abbrev pub replayRun : World → ℕ → ℕ → Ran
-replayRun w spbudget dpbudget = run (w .state) spbudget dpbudget (w .memory) room
+replayRun w spbudget dpbudget = run (w .state) spbudget dpbudget dpbudget (w .memory) room
 
 abbrev pub afterRun : World → ℕ → ℕ → World
 afterRun w spbudget dpbudget =
-    world (replayRun w spbudget dpbudget .outcome .state) (endOfRun (w .state) spbudget dpbudget (w .memory) room .memory)
+    world (replayRun w spbudget dpbudget .outcome .state) (endOfRun (w .state) spbudget dpbudget dpbudget (w .memory) room .memory)
 
 -- The lines that show its counts
 abbrev pub spLine : Ran → Text
@@ -67,7 +67,7 @@ after (Check a word) w = w
 after (Run spbudget dpbudget) w = afterRun w spbudget dpbudget
 
 -- The lines that it writes, from what was there before it. Kinds 2 and 9 show the value found and the value expected; 3 the SP's count, 4 the
--- DP's, and 10 both
+-- consumer's, and 10 both
 unfoldable pub line : Record → World → Text
 line None w = []
 line (Write a v) w = []

@@ -69,7 +69,7 @@ Uncompared state place state′ place′ compared differed =
 module _ {s : State} {m : Memory} {d : List ℕ} {at : ℕ} {r : Ran} {m′ : Memory} {d′ : List ℕ} {place : ℕ} where
   -- A run of the SP alone, into whatever output
   pub sp-run-performed : (budget : ℕ) {out out′ : List ℕ} {state′ : State} {place′ : ℕ} {compared differed : Bool}
-      → RunGives s budget 0 m out r m′ out′ → Put d at (spLine r) d′ place
+      → RunGives s budget 0 0 m out r m′ out′ → Put d at (spLine r) d′ place
       → Uncompared (r .outcome .state) place state′ place′ compared differed
       → PerformGives (SpRun budget) (world s m) d at (world state′ m′) d′ place′ compared differed
   unfolding after line
@@ -96,7 +96,7 @@ module _ {s : State} {m : Memory} {d : List ℕ} {at : ℕ} {r : Ran} {m′ : Me
         differed = u .3;
       }
 
-  -- Of both engines, with both lines
+  -- Of all three, with both lines
   pub run-performed : (a b : ℕ) {d₁ : List ℕ} {p : ℕ} {state′ : State} {place′ : ℕ} {compared differed : Bool}
       → r ≡ replayRun (world s m) a b → m′ ≡ afterRun (world s m) a b .memory
       → Put d at (spLine r) d₁ p → Put d₁ p (dpLine r) d′ place

@@ -75,7 +75,7 @@ fn read_listed(s: State, a: u32, expected: u32, out: &mut [u8], at: usize) -> Pr
     }
 }
 
-// A run of the SP alone, and its count listed. Without budget for the DP nothing is put out, so that eight bytes of output do for all.
+// A run of the SP alone, and its count listed. Without budget for DP and consumer nothing is put out, so that eight bytes of output do for all.
 fn sp_run_listed(
     s: State,
     budget: u32,
@@ -90,7 +90,7 @@ fn sp_run_listed(
         (r .compared) (r .differed) ⌝ }
 {
     let mut none = [0u8; 8];
-    let ran = run(s, budget, 0, rdram, dmem, imem, &mut none);
+    let ran = run(s, budget, 0, 0, rdram, dmem, imem, &mut none);
     let done = ran.outcome;
     let answer = done.answer;
     let place = put_run(out, at, b'S', answer.count);
@@ -98,7 +98,7 @@ fn sp_run_listed(
     uncompared(state, place)
 }
 
-// A run into 2,048 bytes of its own.
+// A run into 2,048 bytes of its own. The consumer has the DP's budget too.
 fn replay_run(
     s: State,
     spbudget: u32,
@@ -112,10 +112,19 @@ fn replay_run(
         ≡ afterRun (world s (memory (now (rdram .entry)) (now (dmem .entry)) (now (imem .entry)))) spbudget dpbudget .memory ⌝ }
 {
     let mut words = [0u8; 2048];
-    run(s, spbudget, dpbudget, rdram, dmem, imem, &mut words)
+    run(
+        s,
+        spbudget,
+        dpbudget,
+        dpbudget,
+        rdram,
+        dmem,
+        imem,
+        &mut words,
+    )
 }
 
-// A run of the DP alone, and its count listed.
+// A run of DP and consumer alone, and the consumer's count listed.
 fn dp_run_listed(
     s: State,
     budget: u32,
@@ -136,7 +145,7 @@ fn dp_run_listed(
     uncompared(state, place)
 }
 
-// A run of both engines, and their counts listed: first the SP's, then the DP's.
+// A run of all three, and two counts listed: first the SP's, then the consumer's.
 fn run_listed(
     s: State,
     spbudget: u32,

@@ -1,6 +1,7 @@
 // Recordings: the records that they hold, and what a reader and a writer answer. The definitions are in specs/; `reader` and `writer` have the code.
 
-// One record. An address is the raw 32 bits that stand in the recording. `Run` is a merged run of both engines, with the SP's budget and then the DP's.
+// One record. An address is the raw 32 bits that stand in the recording. `Run` is a merged run, with the SP's budget and then the DP's, which the
+// consumer has too.
 // `None` is no record: a declined reading gives it.
 pub enum Record {
     None,

@@ -36,9 +36,9 @@ impl Buffers {
 /// What a call leaves beside the bytes.
 #[derive(Debug, PartialEq)]
 pub struct Left {
-    state: ofersky::State,
-    count: u32,
-    words: u32,
+    pub state: ofersky::State,
+    pub count: u32,
+    pub words: u32,
 }
 
 impl From<ofersky::Outcome> for Left {
@@ -94,6 +94,7 @@ pub fn state_of(machine: &Machine) -> ofersky::State {
     ofersky::State {
         sp: sp_state(machine),
         dp: dp_state(machine),
+        queue: machine.queue,
     }
 }
 
@@ -142,17 +143,63 @@ fn dp_state(machine: &Machine) -> ofersky::DpState {
         pipebusy: dp.pipebusy.into(),
         wordsleft: dp.wordsleft,
         line: dp.line.into(),
+        queued: dp.queued,
+        head: dp.head,
     }
 }
 
-/// A machine after register writes from power-up, in plain Rust and in the library.
-pub fn written(writes: &[(u32, u32)]) -> (Machine, ofersky::State) {
-    let mut machine = Machine::default();
-    let mut state = ofersky::power_up();
-    for &(address, value) in writes {
-        machine.write(address, value);
-        state = ofersky::write_register(state, address, value).state;
+/// Where a timed call begins: in plain Rust, in the library and in an earlier one.
+pub struct Start {
+    pub machine: Machine,
+    pub state: ofersky::State,
+    #[cfg(before)]
+    pub earlier: crate::before::State,
+}
+
+impl Start {
+    /// After register writes from power-up.
+    pub fn written(writes: &[(u32, u32)]) -> Start {
+        let mut machine = Machine::default();
+        let mut state = ofersky::power_up();
+        for &(address, value) in writes {
+            machine.write(address, value);
+            state = ofersky::write_register(state, address, value).state;
+        }
+        Start::of(machine, state)
     }
-    assert_eq!(state_of(&machine), state);
-    (machine, state)
+
+    /// After so many fetches more.
+    pub fn fetched(self, words: usize, b: &Buffers) -> Start {
+        let (mut machine, mut state) = (self.machine, self.state);
+        for _ in 0..words {
+            machine.dp.fetch(&mut machine.queue, &b.rdram, &b.dmem);
+            state = ofersky::dp_turn(state, &b.rdram, &b.dmem[..]).state;
+        }
+        Start::of(machine, state)
+    }
+
+    fn of(machine: Machine, state: ofersky::State) -> Start {
+        assert_eq!(state_of(&machine), state);
+        Start {
+            machine,
+            state,
+            #[cfg(before)]
+            earlier: state.into(),
+        }
+    }
+}
+
+/// What a call leaves that has consumed all words, without the ring, which an earlier library has not.
+#[cfg(before)]
+pub struct Drained<T>(pub T);
+
+#[cfg(before)]
+impl<T: Into<Left>> From<Drained<T>> for Left {
+    fn from(drained: Drained<T>) -> Left {
+        let mut left: Left = drained.0.into();
+        assert_eq!(left.state.dp.queued, 0);
+        left.state.dp.head = 0;
+        left.state.queue = Default::default();
+        left
+    }
 }

@@ -12,6 +12,8 @@ pub struct Line {
     pub what: String,
     pub size: usize,
     pub times: [f64; 3],
+    /// An aim by its name, if there is one: the first way may take so many times as long as the second.
+    pub aim: Option<(&'static str, f64)>,
 }
 
 /// Times the three, after one run of each of the first two that must leave the same.
@@ -45,6 +47,7 @@ pub fn measure<A: Into<Left>, B: Into<Left>, C>(
         what,
         size,
         times: times.map(|t| median(t) / size as f64),
+        aim: None,
     }
 }
 

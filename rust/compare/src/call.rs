@@ -22,9 +22,10 @@ pub enum Call {
     Acknowledge,
     SpTurn,
     DpTurn,
-    /// The SP's budget and then the DP's.
+    ConsumerTurn,
+    /// The budgets of the SP, the DP and the consumer.
     Run {
-        budgets: [u32; 2],
+        budgets: [u32; 3],
         out: usize,
     },
     Look,
@@ -43,7 +44,7 @@ pub enum Call {
     },
     /// The verdict of a struct that no replay need have given. Its state is that of the case.
     Verdict {
-        replayed: Replayed,
+        replayed: Box<Replayed>,
     },
 }
 
@@ -56,7 +57,7 @@ pub struct Case {
 }
 
 /// The names of the calls, in the order of `Call::index`.
-pub const NAMES: [&str; 15] = [
+pub const NAMES: [&str; 16] = [
     "power_up",
     "is_sound",
     "read_register",
@@ -66,6 +67,7 @@ pub const NAMES: [&str; 15] = [
     "acknowledge",
     "sp_turn",
     "dp_turn",
+    "consumer_turn",
     "run",
     "look_ahead",
     "read_record",
@@ -86,12 +88,13 @@ impl Call {
             Call::Acknowledge => 6,
             Call::SpTurn => 7,
             Call::DpTurn => 8,
-            Call::Run { .. } => 9,
-            Call::Look => 10,
-            Call::ReadRecord { .. } => 11,
-            Call::WriteRecord { .. } => 12,
-            Call::Replay { .. } => 13,
-            Call::Verdict { .. } => 14,
+            Call::ConsumerTurn => 9,
+            Call::Run { .. } => 10,
+            Call::Look => 11,
+            Call::ReadRecord { .. } => 12,
+            Call::WriteRecord { .. } => 13,
+            Call::Replay { .. } => 14,
+            Call::Verdict { .. } => 15,
         }
     }
 
@@ -110,6 +113,14 @@ impl Call {
     /// Does it take memory or a buffer?
     pub fn takes_bytes(&self) -> bool {
         self.takes_memory() || matches!(self, Call::WriteRecord { .. })
+    }
+
+    /// Does a refusal by this number give the state back as handed in? All do, but those that stop a replay at a record.
+    pub fn keeps_state(&self, number: u32) -> bool {
+        match self {
+            Call::Replay { .. } => matches!(number, 1..=4 | 9),
+            _ => number != 0,
+        }
     }
 
     /// The output that it is lent, empty where it takes none. Of a record that is written it is the buffer.

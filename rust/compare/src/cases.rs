@@ -7,11 +7,11 @@ use crate::values::*;
 use ofersky::State;
 
 /// The kinds of call that act on a state, for `call_of`.
-pub const ON_A_STATE: usize = 10;
+pub const ON_A_STATE: usize = 11;
 
-/// The first of them that takes memory, and the run of both engines.
-pub const ON_MEMORY: usize = 6;
-pub const RUN: usize = 8;
+/// The first of them that takes memory, and the run.
+pub const ON_MEMORY: usize = 7;
+pub const RUN: usize = 9;
 
 /// A call of this kind, with arguments that suit the state.
 pub fn call_of(random: &mut Random, kind: usize, state: &State, rdram: usize) -> Call {
@@ -28,8 +28,9 @@ pub fn call_of(random: &mut Random, kind: usize, state: &State, rdram: usize) ->
         3 => Call::Tick { n: ticks(random) },
         4 => Call::Break,
         5 => Call::Acknowledge,
+        6 => Call::ConsumerTurn,
         ON_MEMORY => Call::SpTurn,
-        7 => Call::DpTurn,
+        8 => Call::DpTurn,
         RUN => run_of(random, state),
         _ => Call::Look,
     }
@@ -44,18 +45,20 @@ fn any_address(random: &mut Random) -> u32 {
     }
 }
 
-/// A run of both engines, or with a budget of 0 for one of them.
+/// A run of all three, or with a budget of 0 for one of them or two. At times the consumer's is about what the output has room for.
 pub fn run_of(random: &mut Random, state: &State) -> Call {
-    let alone = random.below(6);
-    let mut budget = |engine, left| {
-        if alone == engine {
-            0
-        } else {
-            budget(random, left)
-        }
-    };
-    let budgets = [budget(0, sp_left(state)), budget(1, dp_left(state))];
-    let out = run_output(random, dp_left(state));
+    let left = [sp_left(state), dp_left(state), consumer_left(state)];
+    let out = run_output(random, left[2]);
+    let mut budgets = left.map(|left| budget(random, left));
+    if random.once_in(4) {
+        budgets[2] = (out / 8 + random.place(3)).saturating_sub(1) as u32;
+    }
+    if random.once_in(3) {
+        budgets[random.place(3)] = 0;
+    }
+    if random.once_in(8) {
+        budgets[random.place(3)] = 0;
+    }
     Call::Run { budgets, out }
 }
 

@@ -1,5 +1,6 @@
 //! The fields of a state in one table, and the states of both sides turned into each other.
 
+use crate::ring::{slots, words};
 use model::calls;
 use ofersky::{DpState, SpState, State};
 
@@ -11,8 +12,9 @@ pub struct Field {
 }
 
 /// Makes the table and the conversions from one list of names. The struct literals do not compile where a name is missing.
+/// The model has a plain queue in place of the ring.
 macro_rules! fields {
-    (sp: $($sp:ident)*; dp: $($dp:ident)*;) => {
+    (sp: $($sp:ident)*; dp: $($dp:ident)*; ring: $($ring:ident)*; slots: $($slot:literal)*;) => {
         pub const FIELDS: &[Field] = &[
             $(Field {
                 name: concat!("sp.", stringify!($sp)),
@@ -24,19 +26,32 @@ macro_rules! fields {
                 get: |s| s.dp.$dp.into(),
                 set: |s, value| s.dp.$dp = value as _,
             },)*
+            $(Field {
+                name: concat!("dp.", stringify!($ring)),
+                get: |s| s.dp.$ring.into(),
+                set: |s, value| s.dp.$ring = value as _,
+            },)*
+            $(Field {
+                name: concat!("queue[", $slot, "]"),
+                get: |s| s.queue[$slot],
+                set: |s, value| s.queue[$slot] = value,
+            },)*
         ];
 
         pub fn to_model(s: &State) -> calls::State {
             calls::State {
                 sp: calls::SpState { $($sp: s.sp.$sp),* },
-                dp: calls::DpState { $($dp: s.dp.$dp),* },
+                dp: calls::DpState { $($dp: s.dp.$dp,)* head: s.dp.head },
+                queue: words(s),
             }
         }
 
+        /// A state of the model that is sound. Its ring is settled.
         pub fn from_model(s: &calls::State) -> State {
             State {
                 sp: SpState { $($sp: s.sp.$sp),* },
-                dp: DpState { $($dp: s.dp.$dp),* },
+                dp: DpState { $($dp: s.dp.$dp,)* queued: s.queue.len() as u8, head: 0 },
+                queue: slots(&s.queue),
             }
         }
     };
@@ -47,6 +62,8 @@ fields! {
         halted broke sstep intbreak signals line semaphore;
     dp: start end current limit clock cmdcount pipecount tmemcount startpending endpending xbus
         freeze flush pipebusy wordsleft line;
+    ring: queued head;
+    slots: 0 1 2 3 4 5 6 7 8 9 10 11 12 13 14 15 16 17 18 19 20 21 22 23 24 25 26 27 28 29 30 31;
 }
 
 /// The fields that hold 0 or 1.

@@ -43,20 +43,20 @@ fn pool() -> &'static [u8] {
     POOL.get_or_init(|| {
         let mut random = Random::new(0x4F46_4552_534B_5930);
         (0..1 << 17)
-            .flat_map(|_| drawing_word(&mut random))
+            .flat_map(|_| drawing_word(&mut random).to_be_bytes())
             .collect()
     })
 }
 
 /// A random word, more often than by chance the first one of a SYNC_FULL or of a long command.
-fn drawing_word(random: &mut Random) -> [u8; 8] {
+pub fn drawing_word(random: &mut Random) -> u64 {
     let mut word = random.number().to_be_bytes();
     match random.below(8) {
         0 => word[0] = word[0] & 0xC0 | 0x29,
         1 => word[0] = word[0] & 0xCF | 0x08,
         _ => {}
     }
-    word
+    u64::from_be_bytes(word)
 }
 
 /// As many bytes of this pattern; 0 means zeros.

@@ -98,7 +98,7 @@ fn meaning(record: &[u8]) -> String {
         8 => format!("store {} {}", address(), number(5, 13)),
         9 => format!("check {}, expected {}", address(), number(5, 13)),
         _ => format!(
-            "run, SP budget {}, DP budget {}",
+            "run, SP budget {}, DP and consumer budget {}",
             number(1, 5),
             number(5, 9)
         ),

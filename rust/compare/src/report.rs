@@ -61,9 +61,11 @@ fn arguments(call: &Call) -> String {
         Call::Write { address, value } => format!(" {} 0x{value:08X}", address_name(*address)),
         Call::Tick { n } => format!(" 0x{n:X}"),
         Call::Run {
-            budgets: [sp, dp],
+            budgets: [sp, dp, consumer],
             out,
-        } => format!(", SP budget 0x{sp:X}, DP budget 0x{dp:X}, output of {out} bytes"),
+        } => format!(
+            ", SP budget 0x{sp:X}, DP budget 0x{dp:X}, consumer budget 0x{consumer:X}, output of {out} bytes"
+        ),
         Call::ReadRecord { place, .. } => format!(" at place {place}"),
         Call::WriteRecord { item, place, .. } => format!(
             ", kind {}, address {}, value 0x{:X}, at place {place}",

@@ -3,6 +3,7 @@
 use crate::call::{judged, Call, Case};
 use crate::fields::{from_model, to_model};
 use crate::guard::Guarded;
+use crate::ring::settled;
 use crate::verdicts;
 use model::calls;
 use ofersky::{Answer, Findings, Outcome, Part, Ran, Reading, Record, Replayed, State, Verdict};
@@ -11,7 +12,7 @@ use ofersky::{Answer, Findings, Outcome, Part, Ran, Reading, Record, Replayed, S
 #[derive(Clone, Debug, Default, PartialEq, Eq)]
 pub struct Seen {
     pub outcome: Outcome,
-    /// How many words the DP handed out in a run.
+    /// How many words were consumed in a run.
     pub words: u32,
     pub sound: bool,
     pub part: Part,
@@ -52,6 +53,14 @@ impl Seen {
         self.outcome.answer.number + self.reading.number
     }
 
+    /// With the ring settled where the call was accepted: its head and the slots without a word may be any. A refused call must leave every slot as it was.
+    fn settle(mut self, case: &Case) -> Seen {
+        if !case.call.keeps_state(self.number()) {
+            self.outcome.state = settled(&self.outcome.state);
+        }
+        self
+    }
+
     /// All that a run gives.
     fn take_run(&mut self, ran: Ran) {
         Ran {
@@ -70,6 +79,15 @@ impl Seen {
         } = replayed;
     }
 
+    /// The library's part and the bytes there.
+    fn look(&mut self, state: State, rdram: &[u8], dmem: &[u8]) {
+        self.part = ofersky::look_ahead(state, rdram, dmem);
+        // A part that doesn't fit is told by its numbers; taking it would only panic.
+        if part_of(&self.part, rdram, dmem).is_some() {
+            self.bytes[4] = ofersky::next_word(state, rdram, dmem).to_vec();
+        }
+    }
+
     /// The library's verdict.
     fn judge(&mut self, replayed: &Replayed) {
         self.code = ofersky::verdict_code(replayed);
@@ -86,6 +104,11 @@ impl Seen {
 
 /// The library's side.
 pub fn library(case: &Case) -> Seen {
+    library_with_ring(case).settle(case)
+}
+
+/// The library's side with its ring as it is.
+pub fn library_with_ring(case: &Case) -> Seen {
     let mut seen = Seen::lent(case);
     if !case.call.takes_bytes() {
         call_library(case, &mut seen, [&mut [], &mut [], &mut [], &mut []]);
@@ -118,16 +141,12 @@ fn call_library(case: &Case, seen: &mut Seen, lent: [&mut [u8]; 4]) {
         Call::Acknowledge => seen.outcome = ofersky::acknowledge(s),
         Call::SpTurn => seen.outcome = ofersky::sp_turn(s, rdram, dmem, imem),
         Call::DpTurn => seen.outcome = ofersky::dp_turn(s, rdram, dmem),
-        Call::Run {
-            budgets: [sp, dp], ..
-        } => seen.take_run(ofersky::run(s, *sp, *dp, rdram, dmem, imem, out)),
-        Call::Look => {
-            seen.part = ofersky::look_ahead(s, rdram, dmem);
-            // A part that doesn't fit is told by its numbers; taking it would only panic.
-            if part_of(&seen.part, rdram, dmem).is_some() {
-                seen.bytes[4] = ofersky::next_word(s, rdram, dmem).to_vec();
-            }
+        Call::ConsumerTurn => seen.outcome = ofersky::consumer_turn(s),
+        Call::Run { budgets, .. } => {
+            let [sp, dp, consumer] = *budgets;
+            seen.take_run(ofersky::run(s, sp, dp, consumer, rdram, dmem, imem, out))
         }
+        Call::Look => seen.look(s, rdram, dmem),
         Call::ReadRecord { recording, place } => {
             seen.reading = ofersky::read_record(recording, *place)
         }
@@ -148,6 +167,7 @@ pub fn model(case: &Case) -> Seen {
     let mut seen = Seen::lent(case);
     let [rdram, dmem, imem, out, word] = &mut seen.bytes;
     let s = &to_model(&case.state);
+    let given = |outcome| given(case, outcome);
     match &case.call {
         Call::PowerUp => seen.outcome.state = from_model(&calls::power_up()),
         Call::IsSound => seen.sound = calls::is_sound(s),
@@ -160,11 +180,11 @@ pub fn model(case: &Case) -> Seen {
         Call::Acknowledge => seen.outcome = given(calls::acknowledge(s)),
         Call::SpTurn => seen.outcome = given(calls::sp_turn(s, rdram, dmem, imem)),
         Call::DpTurn => seen.outcome = given(calls::dp_turn(s, rdram, dmem)),
-        Call::Run {
-            budgets: [sp, dp], ..
-        } => {
-            let ran = calls::run(s, *sp, *dp, rdram, dmem, imem, out);
-            seen.take_run(run(&ran));
+        Call::ConsumerTurn => seen.outcome = given(calls::consumer_turn(s)),
+        Call::Run { budgets, .. } => {
+            let [sp, dp, consumer] = *budgets;
+            let ran = calls::run(s, sp, dp, consumer, rdram, dmem, imem, out);
+            (seen.outcome, seen.words) = (given(ran.outcome), ran.words);
         }
         Call::Look => (seen.part, *word) = looked(s, rdram, dmem),
         Call::ReadRecord { recording, place } => {
@@ -173,8 +193,8 @@ pub fn model(case: &Case) -> Seen {
         Call::WriteRecord { item, place, .. } => seen.outcome.answer = written(item, out, *place),
         Call::Replay { recording, .. } => {
             let replayed = calls::replay(s, recording, rdram, dmem, imem, out);
-            seen.take(replay(&replayed));
             seen.judge_by_model(&replayed);
+            seen.take(replay(case, replayed));
         }
         Call::Verdict { replayed } => {
             seen.judge_by_model(&verdicts::to_model(&judged(case.state, replayed)))
@@ -183,23 +203,31 @@ pub fn model(case: &Case) -> Seen {
     seen
 }
 
-/// The model's side of an accepted run, with all SP turns before the DP's.
+/// The model's side of an accepted run, with all SP turns before the others.
 pub fn sp_first(case: &Case) -> Seen {
     let mut seen = Seen::lent(case);
     let [rdram, dmem, imem, out, _] = &mut seen.bytes;
     if let Call::Run { budgets, .. } = case.call {
+        let [sp, dp, consumer] = budgets;
         let s = to_model(&case.state);
-        let moved = calls::run(&s, budgets[0], 0, rdram, dmem, imem, out).outcome;
-        let mut ran = calls::run(&moved.state, 0, budgets[1], rdram, dmem, imem, out);
+        let moved = calls::run(&s, sp, 0, 0, rdram, dmem, imem, out).outcome;
+        let mut ran = calls::run(&moved.state, 0, dp, consumer, rdram, dmem, imem, out);
         ran.outcome.answer.count = moved.answer.count;
-        seen.take_run(run(&ran));
+        (seen.outcome, seen.words) = (given(case, ran.outcome), ran.words);
     }
     seen
 }
 
-fn given(outcome: calls::Outcome) -> Outcome {
+/// What the model gave. It has no ring: a state that it gives back as handed in is the case's.
+fn given(case: &Case, outcome: calls::Outcome) -> Outcome {
+    let state = if case.call.keeps_state(outcome.answer.number) {
+        assert_eq!(outcome.state, to_model(&case.state));
+        case.state
+    } else {
+        from_model(&outcome.state)
+    };
     Outcome {
-        state: from_model(&outcome.state),
+        state,
         answer: answer(outcome.answer),
     }
 }
@@ -240,16 +268,9 @@ fn part_of<'a>(part: &Part, rdram: &'a [u8], dmem: &'a [u8]) -> Option<&'a [u8]>
     memory.get(from..from + part.length as usize)
 }
 
-fn run(ran: &calls::Ran) -> Ran {
-    Ran {
-        outcome: given(ran.outcome),
-        words: ran.words,
-    }
-}
-
-fn replay(replayed: &calls::Replayed) -> Replayed {
+fn replay(case: &Case, replayed: calls::Replayed) -> Replayed {
     Replayed {
-        outcome: given(replayed.outcome),
+        outcome: given(case, replayed.outcome),
         written: replayed.written,
         place: replayed.place,
         findings: verdicts::findings(replayed.findings),

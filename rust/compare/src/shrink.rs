@@ -123,7 +123,7 @@ fn sizes() -> Vec<Number> {
 fn all_numbers(case: &Case) -> Vec<Number> {
     let mut all: Vec<Number> = (0..FIELDS.len()).map(Number::Field).collect();
     all.extend([Number::Dmem, Number::Imem, Number::Filled]);
-    all.extend([0, 2, 3].map(Number::Argument));
+    all.extend([0, 2, 3, 4].map(Number::Argument));
     all.push(OUT);
     if let Call::Verdict { .. } = case.call {
         all.extend((0..NUMBERS.len()).map(Number::Judged));
@@ -231,7 +231,7 @@ fn argument(call: &Call, i: usize) -> u64 {
     match (call, i) {
         (Call::Write { value, .. }, 0) => u64::from(*value),
         (Call::Tick { n }, 0) => u64::from(*n),
-        (Call::Run { budgets, .. }, 0 | 2) => u64::from(budgets[i / 2]),
+        (Call::Run { budgets, .. }, 0 | 2 | 4) => u64::from(budgets[i / 2]),
         (Call::ReadRecord { place, .. } | Call::WriteRecord { place, .. }, 0) => *place as u64,
         (Call::Run { out, .. } | Call::Replay { out, .. }, 1) => *out as u64,
         (Call::WriteRecord { buffer, .. }, 1) => buffer.len() as u64,
@@ -245,7 +245,7 @@ fn set_argument(call: &mut Call, i: usize, to: u64) {
     match (call, i) {
         (Call::Write { value, .. }, 0) => *value = to as u32,
         (Call::Tick { n }, 0) => *n = to as u32,
-        (Call::Run { budgets, .. }, 0 | 2) => budgets[i / 2] = to as u32,
+        (Call::Run { budgets, .. }, 0 | 2 | 4) => budgets[i / 2] = to as u32,
         (Call::ReadRecord { place, .. } | Call::WriteRecord { place, .. }, 0) => {
             *place = to as usize
         }

@@ -1,17 +1,20 @@
 //! States made field by field: sound ones near the edges of each rule, and unsound ones.
 
 use crate::fields::{field, FLAGS};
+use crate::memory::drawing_word;
 use crate::random::Random;
 use crate::values::{
     count, length, length_word, ram_address, register_value, sp_address, ADDRESS_BITS,
 };
-use ofersky::{DpState, SpState, State};
+use ofersky::{DpState, SpState, State, QUEUE_WORDS};
 
 /// A sound state; RDRAM has this length.
 pub fn sound(random: &mut Random, rdram: usize) -> State {
     State {
         sp: sound_sp(random, rdram),
         dp: sound_dp(random, rdram),
+        // Every slot holds a word, queued or not.
+        queue: [0; QUEUE_WORDS].map(|_| drawing_word(random)),
     }
 }
 
@@ -72,6 +75,16 @@ fn counter(random: &mut Random) -> u32 {
     }
 }
 
+/// How many words are queued: none, all that there is room for, or any number.
+fn queued(random: &mut Random) -> u8 {
+    match random.below(8) {
+        0 | 1 => 0,
+        2 => 32,
+        3 => random.pick(&[1, 31]),
+        _ => random.below(33) as u8,
+    }
+}
+
 fn sound_dp(random: &mut Random, rdram: usize) -> DpState {
     let start = ram_address(random, rdram);
     let current = ram_address(random, rdram);
@@ -96,6 +109,8 @@ fn sound_dp(random: &mut Random, rdram: usize) -> DpState {
             _ => 0,
         },
         line: random.flag(),
+        queued: queued(random),
+        head: random.below(32) as u8,
     };
     settle(&mut dp);
     dp
@@ -113,12 +128,13 @@ fn settle(dp: &mut DpState) {
     dp.startpending |= dp.endpending;
 }
 
-/// A sound state in which both engines have some words left, but for FREEZE at times. Mostly the SP writes into the memory that the
+/// A sound state in which both engines have some words left, but for FREEZE at times; words are queued or not. Mostly the SP writes into the memory that the
 /// list is in, and often where the list has yet to be fetched, or beside it.
 pub fn both_busy(random: &mut Random, rdram: usize) -> State {
     let mut state = sound(random, rdram);
-    let State { sp, dp } = &mut state;
-    let words = 1 + random.below(30) as u32;
+    let State { sp, dp, .. } = &mut state;
+    let most = random.pick(&[30, 30, 30, 100]);
+    let words = 1 + random.below(most) as u32;
     dp.current = ram_address(random, rdram).min(0xFF_F000);
     dp.limit = dp.current + 8 * words;
     (dp.flush, dp.freeze) = (0, u8::from(random.once_in(10)));
@@ -159,6 +175,8 @@ pub const BREAKS: &[&str] = &[
     "dp.pipecount",
     "dp.tmemcount",
     "dp.wordsleft",
+    "dp.queued",
+    "dp.head",
     "flag",
     "FULL without BUSY",
     "LEN above ROW",
@@ -205,13 +223,14 @@ fn break_number(random: &mut Random, state: &mut State, name: &str) {
         "sp.len" | "sp.skip" | "sp.row" => (0x1000, true),
         "sp.count" => (0x100, false),
         "dp.wordsleft" => (22, false),
+        "dp.queued" => (33, false),
+        "dp.head" => (32, false),
         "dp.clock" | "dp.cmdcount" | "dp.pipecount" | "dp.tmemcount" => (1 << 24, false),
         _ => (1 << 24, true),
     };
-    let most = if name == "dp.wordsleft" {
-        0xFF
-    } else {
-        u32::MAX
+    let most = match name {
+        "dp.wordsleft" | "dp.queued" | "dp.head" => 0xFF,
+        _ => u32::MAX,
     };
     let value = (field.get)(state);
     let bad = match random.below(4) {

@@ -5,6 +5,7 @@ use crate::events::{Event, Events};
 use crate::records::pieces;
 use crate::runs::Runs;
 use crate::seen::Seen;
+use crate::sights::Sights;
 use crate::values::{first_copy, is_register};
 use crate::verdicts::{compared, CODES};
 use std::sync::Mutex;
@@ -38,6 +39,7 @@ pub struct Totals {
     pub verdicts: [[u64; CODES.len()]; NAMES.len()],
     pub findings: Found,
     pub runs: Runs,
+    pub sights: Sights,
     pub events: Events,
 }
 
@@ -92,6 +94,7 @@ impl Totals {
             .filter(|address| first_copy(*address) != *address);
         self.mirrors[call] += mirrors.count() as u64;
         self.runs.count(case, seen);
+        self.sights.count(case, seen);
         if call == REPLAY || call == VERDICT {
             let verdict = CODES.iter().position(|(code, _)| *code == seen.code);
             self.verdicts[call][verdict.expect("a verdict's code")] += 1;
@@ -124,6 +127,7 @@ impl Totals {
         );
         self.findings.add(&other.findings);
         self.runs.add(&other.runs);
+        self.sights.add(&other.sights);
         self.events.add(&other.events);
     }
 

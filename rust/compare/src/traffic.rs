@@ -123,7 +123,7 @@ impl<'a> Traffic<'a> {
         if self.random.once_in(6) {
             return self.run();
         }
-        let left = dp_left(&from_model(&self.watch.state));
+        let left = consumer_left(&from_model(&self.watch.state));
         let budget = budget(self.random, left);
         self.push(Record::DpRun { budget });
     }
@@ -131,7 +131,7 @@ impl<'a> Traffic<'a> {
     fn run(&mut self) {
         let state = from_model(&self.watch.state);
         let sp_budget = budget(self.random, sp_left(&state));
-        let dp_budget = budget(self.random, dp_left(&state));
+        let dp_budget = budget(self.random, consumer_left(&state));
         self.push(Record::Run {
             sp_budget,
             dp_budget,
@@ -166,6 +166,7 @@ impl<'a> Traffic<'a> {
         for _ in 0..1 + self.random.below(2) {
             let start = self.list_start(xbus);
             let end = self.commands(start, xbus);
+            let end = self.list_end(start, end, 20);
             if !self.random.once_in(6) {
                 self.write(DP_START, start);
             }
@@ -186,9 +187,7 @@ impl<'a> Traffic<'a> {
         let start = self.list_start(xbus);
         let end = self.commands(start, xbus);
         self.write(DP_START, start);
-        // At times a list that is longer than the output.
-        let far = start.saturating_add(8 * 300).min(ADDRESS_BITS);
-        let end = self.random.pick(&[end, end, end, far]);
+        let end = self.list_end(start, end, 10);
         self.write(DP_END, end);
         self.sp_run();
         // The SP comes to the words of the list before the DP, or after it.
@@ -217,6 +216,15 @@ impl<'a> Traffic<'a> {
             return high | low;
         }
         ram_address(self.random, self.rdram()).min(0xFF_FC00)
+    }
+
+    /// Where a list ends: after its commands, or once in so many times so far on that words stay queued when the output is full.
+    fn list_end(&mut self, start: u32, end: u32, times: u64) -> u32 {
+        if !self.random.once_in(times) {
+            return end;
+        }
+        let words = 250 + self.random.below(60) as u32;
+        start.saturating_add(8 * words).min(ADDRESS_BITS)
     }
 
     /// Stores whole commands from an address on, and gives the address after them.

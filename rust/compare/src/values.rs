@@ -92,10 +92,15 @@ pub fn dp_left(state: &State) -> u64 {
     u64::from(running) + u64::from(dp.endpending) * u64::from(waiting)
 }
 
-/// A budget: none, one word, what is left, or more.
+/// The words that are queued and those of the lists.
+pub fn consumer_left(state: &State) -> u64 {
+    u64::from(state.dp.queued) + dp_left(state)
+}
+
+/// A budget: none, one word, what is left, about what the queue holds, or more.
 pub fn budget(random: &mut Random, left: u64) -> u32 {
     let left = left as u32;
-    let budget = match random.below(12) {
+    let budget = match random.below(13) {
         0 => 0,
         1 | 2 => 1,
         3 => 2,
@@ -104,6 +109,7 @@ pub fn budget(random: &mut Random, left: u64) -> u32 {
         7 => left.wrapping_add(1),
         8 => u32::MAX,
         9 => 0x8000_0000 | random.word(),
+        10 => 30 + random.below(5) as u32,
         _ => random.below(u64::from(left.min(300)) + 2) as u32,
     };
     // A run through a giant transfer is wanted at times only.

@@ -12,10 +12,14 @@ use model::recording::Record;
 /// The words that the output of a replay's run has room for.
 const OUTPUT_WORDS: usize = 256;
 
-/// What the turns of a run gave: how many words the SP moved, and those that the DP handed out.
+/// The words that the queue has room for.
+const QUEUE_WORDS: usize = 32;
+
+/// What the turns of a run gave: how many words the SP moved and the DP fetched, and those that were consumed.
 #[derive(Default)]
 struct Rounds {
     moved: u32,
+    fetched: u32,
     words: Vec<u64>,
 }
 
@@ -110,8 +114,8 @@ impl Watch {
     }
 
     fn write(&mut self, address: u32, value: u32) {
-        let before = self.state;
-        self.state = calls::write_register(&self.state, address, value).state;
+        let after = calls::write_register(&self.state, address, value).state;
+        let before = std::mem::replace(&mut self.state, after);
         let (sp, full) = (&before.sp, before.sp.full == 1);
         let events = &mut self.events;
         match first_copy(address) {
@@ -145,6 +149,7 @@ impl Watch {
             events.see_if(pipe_off, Event::PipeOffBegan);
             events.see_if(!runs && pipe_off, Event::PipeOffEmpty);
             events.see_if(is.flush == 1, Event::ListUnderFlush);
+            events.see_if(!before.queue.is_empty(), Event::StartQueued);
         }
     }
 
@@ -159,7 +164,10 @@ impl Watch {
             flushed && was.wordsleft > is.wordsleft,
             Event::FlushMidCommand,
         );
+        let queued = !before.queue.is_empty();
+        events.see_if(queued && self.state.queue.is_empty(), Event::FlushQueued);
         events.see_if(ran && was.freeze < is.freeze, Event::FrozenRunning);
+        events.see_if(queued && was.freeze < is.freeze, Event::FrozenQueued);
         events.see_if(ran && was.xbus != is.xbus, Event::XbusMidList);
         let began = was.endpending == 1 && is.endpending == 0 && is.flush == 0;
         events.see_if(began, Event::WaitingListByWrite);
@@ -171,8 +179,12 @@ impl Watch {
         self.state = calls::tick(&self.state, n).state;
         let wrapped = self.state.dp.clock < before.clock;
         self.events.see_if(wrapped, Event::ClockWrap);
-        let busy = before.wordsleft > 0 || before.pipebusy == 1;
-        self.events.see_if(busy, Event::BusyTick);
+        let queued = !self.state.queue.is_empty();
+        let busy = queued || before.pipebusy == 1;
+        let events = &mut self.events;
+        events.see_if(busy, Event::BusyTick);
+        events.see_if(queued, Event::QueuedTick);
+        events.see_if(!queued && before.wordsleft > 0, Event::WordsLeftTick);
     }
 
     fn budget(&mut self, budget: u32) {
@@ -183,76 +195,107 @@ impl Watch {
     fn sp_run(&mut self, budget: u32) {
         self.budget(budget);
         self.events.see_if(self.state.sp.busy == 0, Event::IdleRun);
-        let moved = self.rounds(budget, 0).moved;
+        let moved = self.rounds([budget, 0, 0]).moved;
         let idle = self.state.sp.busy == 0;
         self.events.see_if(idle && moved > 0, Event::IdleStop);
         self.events.see_if(!idle, Event::BudgetStop);
     }
 
+    /// The consumer has the same budget as the DP.
     fn dp_run(&mut self, budget: u32) {
         self.budget(budget);
-        let words = self.rounds(0, budget).words;
-        let (frozen, full) = self.stops(budget, words.len());
+        let before = self.state.clone();
+        let done = self.rounds([0, budget, budget]);
+        let (frozen, full) = self.stops(budget, done.words.len());
         self.events.see_if(frozen, Event::FrozenStop);
         self.events.see_if(full, Event::OutputStop);
+        self.queue_of_run(&before, &done);
     }
 
-    /// Is the list frozen, and did the output end the run?
+    /// What the queue was and is, of a run that fetched or consumed.
+    fn queue_of_run(&mut self, before: &State, done: &Rounds) {
+        let left = self.state.queue.len();
+        let (within, consumed) = (before.dp.wordsleft > 0, !done.words.is_empty());
+        let events = &mut self.events;
+        events.see_if(consumed && !before.queue.is_empty(), Event::QueuedRun);
+        events.see_if(consumed && within, Event::MidCommandRun);
+        let within = consumed && self.state.dp.wordsleft > 0;
+        events.see_if(within && left > 0, Event::MidCommandLeft);
+        events.see_if(left > 0 && done.fetched > 0, Event::LeftQueued);
+        events.see_if(left == QUEUE_WORDS && done.fetched > 0, Event::LeftFull);
+    }
+
+    /// Is anything frozen, and did the output end the consumer?
     fn stops(&self, budget: u32, words: usize) -> (bool, bool) {
         let dp = &self.state.dp;
-        let more = dp.current < dp.limit;
+        let queued = !self.state.queue.is_empty();
+        let more = queued || dp.current < dp.limit;
         let full = words == OUTPUT_WORDS && budget as usize > OUTPUT_WORDS;
-        (more && dp.freeze == 1, more && dp.freeze == 0 && full)
+        (more && dp.freeze == 1, queued && dp.freeze == 0 && full)
     }
 
     fn run(&mut self, sp_budget: u32, dp_budget: u32) {
         self.events.see(Event::MergedRun);
         let zero = sp_budget == 0 || dp_budget == 0;
         self.events.see_if(zero, Event::MergedZeroBudget);
-        let before = self.state;
-        let sp_first = self.sp_first(sp_budget, dp_budget);
-        let Rounds { moved, words } = self.rounds(sp_budget, dp_budget);
-        let (frozen, full) = self.stops(dp_budget, words.len());
+        let before = self.state.clone();
+        let budgets = [sp_budget, dp_budget, dp_budget];
+        let sp_first = self.both_act(budgets).then(|| self.sp_first(budgets));
+        let done = self.rounds(budgets);
+        let (frozen, full) = self.stops(dp_budget, done.words.len());
+        self.queue_of_run(&before, &done);
         let events = &mut self.events;
         events.see_if(frozen, Event::MergedFrozen);
         events.see_if(full, Event::MergedOutputStop);
-        if moved == 0 || words.is_empty() {
+        let Some(sp_first) = sp_first else {
+            assert!(done.moved == 0 || done.fetched == 0);
             return;
-        }
-        events.see_if((moved as usize) < words.len(), Event::SpEndedFirst);
-        events.see_if(moved as usize > words.len(), Event::DpEndedFirst);
+        };
+        events.see_if(done.moved < done.fetched, Event::SpEndedFirst);
+        events.see_if(done.moved > done.fetched, Event::DpEndedFirst);
         let shares = shares(&from_model(&before), self.rdram.len());
-        let decided = sp_first != (self.state, words);
+        let decided = (&sp_first.0, &sp_first.1) != (&self.state, &done.words);
         events.see_if(!shares, Event::OtherBytes);
         events.see_if(shares, Event::SameBytes);
         events.see_if(decided, Event::OrderDecided);
         self.unforeseen |= decided && !shares;
     }
 
-    /// The state and the words if all SP turns came before the DP's. The memories would be the same, for the DP writes nothing.
-    fn sp_first(&self, sp_budget: u32, dp_budget: u32) -> (State, Vec<u64>) {
-        let mut watch = Watch {
-            events: Events::default(),
-            rdram: self.rdram.clone(),
-            dmem: self.dmem.clone(),
-            imem: self.imem.clone(),
-            ..*self
-        };
-        watch.rounds(sp_budget, 0);
-        let words = watch.rounds(0, dp_budget).words;
+    /// Will both engines take turns in a run? A full queue holds the DP up only until the consumer has taken a word.
+    fn both_act(&self, [sp, dp, _]: [u32; 3]) -> bool {
+        let (busy, frozen) = (self.state.sp.busy == 1, self.state.dp.freeze == 1);
+        sp > 0 && dp > 0 && busy && self.lists() && !frozen
+    }
+
+    /// The state and the words if all SP turns came before the others. The memories would be the same, for only the SP writes.
+    fn sp_first(&self, [sp, dp, consumer]: [u32; 3]) -> (State, Vec<u64>) {
+        let memories = [&self.rdram, &self.dmem, &self.imem].map(Vec::clone);
+        let mut watch = Watch::new(self.state.clone(), memories);
+        watch.rounds([sp, 0, 0]);
+        let words = watch.rounds([0, dp, consumer]).words;
         (watch.state, words)
     }
 
-    /// The turns of a run, round by round.
-    fn rounds(&mut self, sp_budget: u32, dp_budget: u32) -> Rounds {
+    fn lists(&self) -> bool {
+        self.state.dp.current < self.state.dp.limit
+    }
+
+    /// The turns of a run, round by round. The model is not asked for those that cannot do anything: long runs would take long.
+    fn rounds(&mut self, [sp, dp, consumer]: [u32; 3]) -> Rounds {
         let mut done = Rounds::default();
+        let room = OUTPUT_WORDS.min(consumer as usize);
         loop {
-            let sp = done.moved < sp_budget && self.state.sp.busy == 1 && self.sp_turn();
-            done.moved += u32::from(sp);
-            let room = done.words.len() < OUTPUT_WORDS.min(dp_budget as usize);
-            let word = if room { self.dp_turn() } else { None };
+            let moved = done.moved < sp && self.state.sp.busy == 1 && self.sp_turn();
+            let fetched = done.fetched < dp && self.lists() && self.dp_turn();
+            let consumes = done.words.len() < room && !self.state.queue.is_empty();
+            let word = match consumes {
+                true => self.consumer_turn(),
+                false => None,
+            };
+            done.moved += u32::from(moved);
+            done.fetched += u32::from(fetched);
             done.words.extend(word);
-            if !sp && word.is_none() {
+            if !moved && !fetched && word.is_none() {
                 return done;
             }
         }
@@ -283,36 +326,53 @@ impl Watch {
         outcome.answer.count == 1
     }
 
-    /// One DP turn, and the word that it handed out.
-    fn dp_turn(&mut self) -> Option<u64> {
+    /// One DP turn; whether it fetched a word.
+    fn dp_turn(&mut self) -> bool {
         let before = self.state.dp;
+        let full = self.state.queue.len() == QUEUE_WORDS;
         let outcome = calls::dp_turn(&self.state, &self.rdram, &self.dmem);
+        self.state = outcome.state;
+        let events = &mut self.events;
+        if outcome.answer.count == 0 {
+            let lists = before.current < before.limit && before.freeze == 0;
+            events.see_if(lists && full, Event::QueueHeldUp);
+            return false;
+        }
+        let dmem = before.xbus == 1;
+        let past = !dmem && before.current as usize >= self.rdram.len();
+        events.see(Event::Fetched);
+        events.see_if(dmem, Event::FetchedFromDmem);
+        events.see_if(past, Event::FetchedZeros);
+        events.see_if(dmem && before.current & 0xFF8 == 0xFF8, Event::DmemEnd);
+        events.see_if(self.state.queue.len() == QUEUE_WORDS, Event::QueueFilled);
+        let after = &self.state.dp;
+        events.see_if(before.pipebusy < after.pipebusy, Event::PipeOn);
+        let began = before.endpending == 1 && after.endpending == 0;
+        events.see_if(began, Event::WaitingListByTurn);
+        true
+    }
+
+    /// One consumer turn, and the word that it took.
+    fn consumer_turn(&mut self) -> Option<u64> {
+        let before = self.state.dp;
+        let outcome = calls::consumer_turn(&self.state);
         self.state = outcome.state;
         if outcome.answer.count == 0 {
             return None;
         }
         let first = (outcome.answer.value >> 56) as u8;
-        let dmem = before.xbus == 1;
-        let past = !dmem && before.current as usize >= self.rdram.len();
-        let events = &mut self.events;
-        events.see(Event::Handed);
-        events.see_if(dmem, Event::HandedFromDmem);
-        events.see_if(past, Event::HandedZeros);
-        events.see_if(dmem && before.current & 0xFF8 == 0xFF8, Event::DmemEnd);
         let sync = first % 64 == 0x29;
+        let events = &mut self.events;
+        events.see(Event::Consumed);
         if before.wordsleft == 0 {
             events.first_bytes[first as usize] += 1;
             events.see_if(sync, Event::SyncFull);
+            events.see_if(sync && !self.state.queue.is_empty(), Event::SyncFullBefore);
         } else {
             events.see_if(sync, Event::SyncFullLook);
         }
         let after = &self.state.dp;
-        events.see_if(before.pipebusy < after.pipebusy, Event::PipeOn);
         events.see_if(before.pipebusy > after.pipebusy, Event::PipeOff);
-        let began = before.endpending == 1 && after.endpending == 0;
-        events.see_if(began, Event::WaitingListByTurn);
-        let synced = before.wordsleft == 0 && sync;
-        events.see_if(began && synced, Event::SyncFullFollowed);
         Some(outcome.answer.value)
     }
 }

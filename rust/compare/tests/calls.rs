@@ -7,6 +7,7 @@ use compare::damage::{bad_address, bad_kind, exactly, flipped, LONGEST};
 use compare::fields::{field, FIELDS, FLAGS};
 use compare::memory::{Lent, LONGEST_RDRAM};
 use compare::random::Random;
+use compare::ring::turned;
 use compare::seen::{next_state, Seen};
 use compare::states::{break_clause, sound, unsound, BREAKS};
 use compare::totals::{Sum, Totals};
@@ -24,6 +25,8 @@ fn done(test: &str, totals: &Totals) {
     assert_eq!(totals.runs.unforeseen, 0);
     if let Some(all) = ALL.add(totals) {
         println!("all single calls: {}", all.calls_line());
+        println!("their queues: {}", all.sights.line());
+        all.sights.expect(25);
         assert!(all.compared >= 200_000);
     }
 }
@@ -120,17 +123,27 @@ fn addresses_beside_the_registers() {
     done("addresses beside the registers", &comparison.totals);
 }
 
-/// The words that DP turns handed out.
+/// The words that turns fetched and consumed.
 struct Words {
-    handed: u32,
+    fetched: u32,
+    consumed: u32,
     /// Those that begin a command, by opcode.
     framed: [u32; 64],
-    /// By PIPE_BUSY before them: first and later ones of a command, and SYNC_FULL.
-    pipe: [[u32; 3]; 2],
+    /// By PIPE_BUSY before them: first and later ones of a command, SYNC_FULL, and words fetched.
+    pipe: [[u32; 4]; 2],
 }
 
 impl Words {
-    /// Counts the word of a turn. PIPE_BUSY is on after it, unless it is a SYNC_FULL.
+    /// Counts the word of a DP turn. PIPE_BUSY is on after it, and it is not framed.
+    fn see_fetch(&mut self, before: &State, outcome: &Outcome) {
+        self.fetched += 1;
+        self.pipe[before.dp.pipebusy as usize][3] += 1;
+        let after = &outcome.state.dp;
+        assert_eq!((outcome.answer.value, after.pipebusy), (0, 1));
+        assert_eq!(after.wordsleft, before.dp.wordsleft);
+    }
+
+    /// Counts the word of a consumer turn. PIPE_BUSY is off after a SYNC_FULL, and else as before.
     fn see(&mut self, before: &State, outcome: &Outcome) {
         let opcode = (outcome.answer.value >> 56) as usize % 64;
         let begins = before.dp.wordsleft == 0;
@@ -139,10 +152,11 @@ impl Words {
             (true, 0x29) => 2,
             (true, _) => 0,
         };
-        self.handed += 1;
+        self.consumed += 1;
         self.framed[opcode] += u32::from(begins);
         self.pipe[before.dp.pipebusy as usize][kind] += 1;
-        assert_eq!(outcome.state.dp.pipebusy, u8::from(kind != 2));
+        let pipe = if kind == 2 { 0 } else { before.dp.pipebusy };
+        assert_eq!(outcome.state.dp.pipebusy, pipe);
     }
 }
 
@@ -152,9 +166,10 @@ fn turns_runs_and_looks() {
     let mut comparison = Comparison::new("call");
     let [mut moved, mut found] = [0; 2];
     let mut words = Words {
-        handed: 0,
+        fetched: 0,
+        consumed: 0,
         framed: [0; 64],
-        pipe: [[0; 3]; 2],
+        pipe: [[0; 4]; 2],
     };
     for _ in 0..14_000 {
         let lent = good_lengths(&mut random);
@@ -163,19 +178,25 @@ fn turns_runs_and_looks() {
             let call = call_of(&mut random, kind, &state, lent.rdram);
             let case = Case { state, lent, call };
             let seen = comparison.check(&case);
-            match case.call {
-                Call::SpTurn => moved += seen.outcome.answer.count,
-                Call::DpTurn if seen.outcome.answer.count == 1 => words.see(&state, &seen.outcome),
-                Call::Look => found += seen.part.length / 8,
+            match (&case.call, seen.outcome.answer.count) {
+                (Call::SpTurn, count) => moved += count,
+                (Call::DpTurn, 1) => words.see_fetch(&state, &seen.outcome),
+                (Call::ConsumerTurn, 1) => words.see(&state, &seen.outcome),
+                (Call::Look, _) => found += seen.part.length / 8,
                 _ => {}
             }
         }
     }
-    let (handed, framed, pipe) = (words.handed, &words.framed, &words.pipe);
+    let Words {
+        fetched,
+        consumed,
+        framed,
+        pipe,
+    } = words;
     assert!(framed.iter().all(|seen| *seen >= 3), "{framed:?}");
     assert!(pipe.iter().flatten().all(|seen| *seen >= 3), "{pipe:?}");
-    assert!(moved >= 3_000 && handed >= 3_000 && found >= 2_000);
-    println!("turns, runs and looks: {moved} SP turns moved a word, {handed} DP turns handed one out, {found} looks found one");
+    assert!(moved >= 3_000 && fetched >= 2_500 && consumed >= 3_000 && found >= 2_000);
+    println!("turns, runs and looks: {moved} SP turns moved a word, {fetched} DP turns fetched one, {consumed} consumer turns took one, {found} looks found one");
     println!("their runs: {}", comparison.totals.runs.line());
     done("turns, runs and looks", &comparison.totals);
 }
@@ -193,7 +214,8 @@ fn walks() {
         for _ in 0..80 {
             let case = any_case(&mut random, state, lent);
             let seen = comparison.check(&case);
-            state = next_state(&case, &seen);
+            // The queue's words go on from other slots.
+            state = turned(&next_state(&case, &seen), &mut random);
         }
         let sound = comparison.check(&plain(state, Call::IsSound)).sound;
         assert!(
@@ -219,10 +241,11 @@ fn unsound_states() {
         }
     }
     every_flag_byte(&mut comparison, &mut random);
+    every_ring(&mut comparison, &mut random);
     for call in ["read_register", "write_register", "tick", "sp_break"] {
         comparison.totals.expect_numbers(call, &[4], 1_000);
     }
-    for call in ["acknowledge", "sp_turn", "dp_turn", "run"] {
+    for call in ["acknowledge", "sp_turn", "dp_turn", "consumer_turn", "run"] {
         comparison.totals.expect_numbers(call, &[4], 1_000);
     }
     done("unsound states", &comparison.totals);
@@ -240,6 +263,19 @@ fn every_flag_byte(comparison: &mut Comparison, random: &mut Random) {
             let mut state = sound(random, 4_096);
             (field(name).set)(&mut state, byte);
             expect_unsound(comparison, state, name);
+            comparison.check(&any_case(random, state, Lent::new(64, 2)));
+        }
+    }
+}
+
+/// Every number of queued words, and every slot of the oldest.
+fn every_ring(comparison: &mut Comparison, random: &mut Random) {
+    for byte in 0..=255 {
+        for (name, most) in [("dp.queued", 32), ("dp.head", 31)] {
+            let mut state = sound(random, 4_096);
+            (field(name).set)(&mut state, byte);
+            let seen = comparison.check(&plain(state, Call::IsSound));
+            assert_eq!(seen.sound, byte <= most, "{name} {byte}");
             comparison.check(&any_case(random, state, Lent::new(64, 2)));
         }
     }

@@ -1,12 +1,16 @@
-//! Runs of both engines, by the library and by the model: any, every small one, and the library against its own single turns.
+//! Runs of the SP, the DP and the consumer, by the library and by the model: any, every small one, and the library against its own single turns.
+//! And series of such turns: what the order does to them.
 
 use compare::call::{Call, Case};
 use compare::cases::{good_lengths, odd_lengths, run_of};
 use compare::comparison::Comparison;
 use compare::memory::Lent;
 use compare::random::Random;
-use compare::runs::by_single_turns;
-use compare::seen::library;
+use compare::runs::{by_single_turns, shares};
+use compare::seen::library_with_ring;
+use compare::series::{
+    any_turns, sp_turns_first, sync_full_before_the_last, words_to_consume, Series, Turn,
+};
 use compare::states::{both_busy, break_clause, sound, BREAKS};
 use compare::totals::{Sum, Totals};
 use ofersky::State;
@@ -24,50 +28,73 @@ fn done(test: &str, totals: &Totals) {
     }
 }
 
+/// A run on a sound state, mostly one in which both engines have words left.
+fn any_run(random: &mut Random) -> Case {
+    let lent = good_lengths(random);
+    let state = match random.below(4) {
+        0 => sound(random, lent.rdram),
+        _ => both_busy(random, lent.rdram),
+    };
+    let call = run_of(random, &state);
+    Case { state, lent, call }
+}
+
 #[test]
 fn any_runs() {
     let mut random = Random::of_test(71);
     let mut comparison = Comparison::new("call");
     for _ in 0..40_000 {
-        let lent = good_lengths(&mut random);
-        let state = match random.below(4) {
-            0 => sound(&mut random, lent.rdram),
-            _ => both_busy(&mut random, lent.rdram),
-        };
-        let call = run_of(&mut random, &state);
-        comparison.check(&Case { state, lent, call });
+        comparison.check(&any_run(&mut random));
     }
     let totals = &comparison.totals;
-    totals.runs.expect(500);
+    totals.runs.expect(200);
     done("any runs", totals);
 }
 
-/// A transfer of four words that writes this many words after the place where a list of four begins, or before it.
-fn four_words_each(after: i32, xbus: bool) -> State {
+/// A transfer of four words that writes this many words after the place where a list of four begins, or before it; and so many words queued.
+fn four_words_each(after: i32, xbus: bool, queued: u8) -> State {
     let mut state = ofersky::power_up();
     let place = 0x100u32.wrapping_add_signed(8 * after);
-    let State { sp, dp } = &mut state;
+    let State { sp, dp, queue } = &mut state;
     (sp.busy, sp.len, sp.row) = (1, 0x18, 0x18);
     (sp.spaddr, sp.ramaddr) = (place, place);
     (sp.storing, dp.xbus) = (u8::from(!xbus), u8::from(xbus));
     // With XBUS the list stands above DMEM and is read there.
     dp.current = if xbus { 0x3100 } else { 0x100 };
     dp.limit = dp.current + 0x20;
+    // The oldest words stand in the last slots. Each third one is a SYNC_FULL.
+    (dp.queued, dp.head) = (queued, 30);
+    for (i, word) in (0..).zip(queue) {
+        *word = if i % 3 == 0 { 0x29 << 56 | i } else { i };
+    }
     state
+}
+
+/// Each of these budgets with each of the others.
+fn small_budgets() -> Vec<[u32; 3]> {
+    let mut budgets = Vec::new();
+    for sp in [0, 1, 3, u32::MAX] {
+        for dp in [0, 1, 2, 4, u32::MAX] {
+            budgets.extend([0, 1, 3, 4, u32::MAX].map(|consumer| [sp, dp, consumer]));
+        }
+    }
+    budgets
 }
 
 #[test]
 fn every_small_run() {
     let mut comparison = Comparison::new("call");
-    let budgets = [0, 1, 2, 3, 4, 5, u32::MAX];
-    let pairs = budgets.map(|sp| budgets.map(|dp| [sp, dp])).concat();
     let shapes = (-5..=5).flat_map(|after| [(after, false), (after, true)]);
     for (fill, (after, xbus)) in (1..).zip(shapes) {
-        let (state, lent) = (four_words_each(after, xbus), Lent::new(0x200, fill));
-        for budgets in pairs.iter().copied() {
-            for out in (0..=40).chain([64]) {
-                let call = Call::Run { budgets, out };
-                comparison.check(&Case { state, lent, call });
+        let lent = Lent::new(0x200, fill);
+        for (queued, outs) in [(0, 0..=40), (2, 0..=7), (30, 16..=16), (32, 32..=40)] {
+            let state = four_words_each(after, xbus, queued);
+            for budgets in small_budgets() {
+                // Every rest of a word once, and room for all of them.
+                for out in outs.clone().step_by(5).chain([512]) {
+                    let call = Call::Run { budgets, out };
+                    comparison.check(&Case { state, lent, call });
+                }
             }
         }
     }
@@ -80,18 +107,16 @@ fn every_small_run() {
 #[test]
 fn runs_of_single_turns() {
     let mut random = Random::of_test(72);
-    let mut comparison = Comparison::of(by_single_turns, library, "call");
+    // The ring is compared too, slot by slot.
+    let mut comparison = Comparison::of(by_single_turns, library_with_ring, "call");
     for _ in 0..20_000 {
-        let lent = good_lengths(&mut random);
-        let state = both_busy(&mut random, lent.rdram);
-        let call = run_of(&mut random, &state);
-        comparison.check(&Case { state, lent, call });
+        comparison.check(&any_run(&mut random));
     }
-    comparison.totals.runs.expect(200);
+    comparison.totals.runs.expect(100);
     done("runs of single turns", &comparison.totals);
 }
 
-/// Every number in its order, also where a budget is 0; the words that would be handed out, and the memories, stay as they were.
+/// Every number in its order, also where a budget is 0; the words that would be consumed, and the memories, stay as they were.
 #[test]
 fn refused_runs() {
     let mut random = Random::of_test(73);
@@ -117,4 +142,177 @@ fn refused_runs() {
     let totals = &comparison.totals;
     totals.expect_numbers("run", &[0, 1, 2, 3, 4], 1_000);
     done("refused runs", totals);
+}
+
+/// Series of turns from states in which the lists have some words, and what was seen of them.
+#[derive(Clone, Copy, Debug, Default)]
+struct Orders {
+    /// The SP had no byte to write that the lists had yet to fetch; or it had some.
+    apart: u64,
+    shared: u64,
+    /// Another order gave or left something else: by bytes that are shared.
+    decided: u64,
+    /// And by PIPE_BUSY alone, where a SYNC_FULL stands before the last word.
+    decided_pipe: u64,
+    /// A SYNC_FULL stands before the last word.
+    sync_before: u64,
+    /// Series that did not end with everything consumed.
+    undrained: u64,
+    /// Words that were queued at the outset were consumed.
+    queued: u64,
+    declined: u64,
+}
+
+impl Orders {
+    /// Each was seen at least so often.
+    fn expect(&self, least: u64, counts: &[u64]) {
+        assert!(counts.iter().all(|seen| *seen >= least), "{self:?}");
+    }
+}
+
+/// A state for a series: both engines have words left, but no list is longer than a series can fetch.
+fn outset(random: &mut Random, rdram: usize) -> State {
+    let mut state = both_busy(random, rdram);
+    let dp = &mut state.dp;
+    dp.end = dp.end.min(dp.start + 8 * random.below(60) as u32);
+    state
+}
+
+/// For every series, drained or not, with FREEZE or without: the same turns with the SP's first give the same answers, memories and end state, ring
+/// included, where no byte is shared.
+#[test]
+fn sp_turns_moved_to_the_front() {
+    let mut random = Random::of_test(74);
+    let mut orders = Orders::default();
+    for _ in 0..5_000 {
+        let lent = good_lengths(&mut random);
+        let state = outset(&mut random, lent.rdram);
+        let turns = any_turns(&mut random, 30);
+        let series = Series::of(state, lent.bytes(), &turns);
+        let other = Series::of(state, lent.bytes(), &sp_turns_first(&turns));
+        let shares = shares(&state, lent.rdram);
+        let decided = series != other;
+        assert!(shares || !decided, "{state:?} {turns:?}");
+        let consumed = series.consumed().len();
+        orders.apart += u64::from(!shares && consumed > 0);
+        orders.shared += u64::from(shares && consumed > 0);
+        orders.decided += u64::from(decided);
+        orders.undrained += u64::from(!series.is_drained() && consumed > 0);
+        orders.queued += u64::from(consumed > 0 && state.dp.queued > 0);
+        orders.declined += u64::from(turns.contains(&Turn::DeclinedSp));
+    }
+    println!("series with the SP's turns moved to the front: {orders:?}");
+    orders.expect(300, &[orders.apart, orders.shared, orders.decided]);
+    orders.expect(300, &[orders.undrained, orders.queued, orders.declined]);
+}
+
+/// These SP turns with any others between them, and then turns until nothing is left to fetch or consume.
+fn drained(random: &mut Random, state: State, lent: &Lent, sp_turns: &[Turn]) -> Series {
+    let mut series = Series::of(state, lent.bytes(), &[]);
+    for turn in sp_turns {
+        if random.once_in(3) {
+            let between = any_turns(random, 3);
+            let others = between.into_iter().filter(|turn| !turn.is_sp());
+            others.for_each(|turn| series.take(turn));
+        }
+        series.take(*turn);
+    }
+    series.drain(random);
+    series
+}
+
+/// What two series must have in common, beside the words: SP answers, memories and the end state. PIPE_BUSY is left out if it may differ.
+fn in_common(mut series: Series, pipe_counts: bool) -> Series {
+    if !pipe_counts {
+        series.state.dp.pipebusy = 0;
+    }
+    let [sp, ..] = series.answers;
+    series.answers = [sp, Vec::new(), Vec::new()];
+    series
+}
+
+/// Two drained series from one outset, with the same SP turns.
+struct Pair {
+    state: State,
+    lent: Lent,
+    sp_turns: Vec<Turn>,
+    series: [Series; 2],
+}
+
+impl Pair {
+    fn new(random: &mut Random) -> Pair {
+        let lent = good_lengths(random);
+        let mut state = outset(random, lent.rdram);
+        state.dp.freeze = 0;
+        let mut sp_turns = any_turns(random, 20);
+        sp_turns.retain(Turn::is_sp);
+        let series = [(); 2].map(|_| drained(random, state, &lent, &sp_turns));
+        Pair {
+            state,
+            lent,
+            sp_turns,
+            series,
+        }
+    }
+
+    /// The two series and the run with as many SP turns agree, and consume the words of the outset.
+    fn agrees(&self, words: &[u64], pipe_counts: bool) {
+        let [one, other] = self.series.clone();
+        assert_eq!(one.consumed(), words);
+        assert_eq!(other.consumed(), words);
+        let run = self.as_a_run(words);
+        let [one, other, run] = [one, other, run].map(|series| in_common(series, pipe_counts));
+        assert!(one == other && one == run, "{:?}", self.state);
+    }
+
+    /// A run that has room for all words.
+    fn as_a_run(&self, words: &[u64]) -> Series {
+        let [mut rdram, mut dmem, mut imem] = self.lent.bytes();
+        let mut out = vec![0; 8 * words.len()];
+        let taken = self.sp_turns.iter().filter(|turn| **turn == Turn::Sp);
+        let (sp, all) = (taken.count() as u32, u32::MAX);
+        let (r, d, i) = (&mut rdram, &mut dmem, &mut imem);
+        let ran = ofersky::run(self.state, sp, all, all, r, d, i, &mut out);
+        let expected: Vec<u8> = words.iter().flat_map(|word| word.to_be_bytes()).collect();
+        assert!(out == expected && ran.words as usize == words.len());
+        // A run has one count for all its SP turns.
+        let answers = self.series[0].answers.clone();
+        let moved: u32 = answers[0].iter().map(|answer| answer.count).sum();
+        assert_eq!(ran.outcome.answer.count, moved);
+        Series {
+            state: ran.outcome.state,
+            memories: [rdram, dmem, imem],
+            answers,
+        }
+    }
+}
+
+/// Demand 3: series that end with nothing left to fetch or consume.
+#[test]
+fn drained_series() {
+    let mut random = Random::of_test(75);
+    let mut orders = Orders::default();
+    for _ in 0..4_000 {
+        let pair = Pair::new(&mut random);
+        let (state, [one, other]) = (&pair.state, &pair.series);
+        let words = words_to_consume(state, &pair.lent.bytes());
+        let sync_before = sync_full_before_the_last(&words, state.dp.wordsleft);
+        let shares = shares(state, pair.lent.rdram);
+        if !shares {
+            pair.agrees(&words, !sync_before);
+        }
+        let pipe_differs = one.state.dp.pipebusy != other.state.dp.pipebusy;
+        let declined = pair.sp_turns.contains(&Turn::DeclinedSp);
+        orders.apart += u64::from(!shares);
+        orders.shared += u64::from(shares);
+        orders.decided += u64::from(one.consumed() != other.consumed());
+        orders.decided_pipe += u64::from(!shares && pipe_differs);
+        orders.sync_before += u64::from(!shares && sync_before);
+        orders.queued += u64::from(!shares && state.dp.queued > 0);
+        orders.declined += u64::from(!shares && declined);
+    }
+    println!("drained series: {orders:?}");
+    orders.expect(150, &[orders.apart, orders.shared, orders.decided]);
+    orders.expect(150, &[orders.sync_before, orders.queued, orders.declined]);
+    orders.expect(100, &[orders.decided_pipe]);
 }

@@ -148,7 +148,7 @@ fn expect_traffic(totals: &Totals, least: u64) {
 
 #[test]
 fn traffic_from_power_up() {
-    let mut totals = compare_traffic(1, 18_000, 6, power_up);
+    let mut totals = compare_traffic(1, 14_500, 6, power_up);
     totals.add(&compare_traffic(2, 100, 300, power_up));
     expect_traffic(&totals, 20);
     done("traffic from power-up", &totals);
@@ -156,7 +156,7 @@ fn traffic_from_power_up() {
 
 #[test]
 fn traffic_from_any_state() {
-    let totals = compare_traffic(3, 14_000, 5, sound);
+    let totals = compare_traffic(3, 11_500, 5, sound);
     expect_traffic(&totals, 20);
     done("traffic from sound states", &totals);
 }

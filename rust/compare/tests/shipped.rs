@@ -10,7 +10,7 @@ const BANK: usize = 4_096;
 
 /// The verdict of each recording, counted in its listing: the `R` and `L` lines, and those with `expected`. The index and the place are those of the
 /// first record with such a line.
-const VERDICTS: [(&str, Verdict); 36] = [
+const VERDICTS: [(&str, Verdict); 41] = [
     ("bank_wrap", passed(13)),
     ("double_buffer", passed(16)),
     ("empty", Verdict::NothingCompared),
@@ -19,6 +19,7 @@ const VERDICTS: [(&str, Verdict); 36] = [
     ("long_138", differs(445, 62, 103, 979)),
     ("long_17", differs(475, 68, 88, 832)),
     ("long_merged_505", differs(400, 53, 78, 774)),
+    ("long_queue_52", differs(428, 53, 105, 1081)),
     ("longest", Verdict::NothingCompared),
     ("merged_budgets", passed(9)),
     ("merged_order", passed(5)),
@@ -28,6 +29,10 @@ const VERDICTS: [(&str, Verdict); 36] = [
     ("mismatch", differs(9, 7, 0, 0)),
     ("past_length", passed(11)),
     ("pipe_busy", passed(10)),
+    ("queue_drain", passed(12)),
+    ("queue_flush", passed(9)),
+    ("queue_stall", passed(13)),
+    ("queue_sync_full", passed(10)),
     ("refused_after_mismatch", refused(10, 2, 1)),
     ("refused_cut", refused(8, 1, 0)),
     ("refused_first", refused(5, 0, 0)),

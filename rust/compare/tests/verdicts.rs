@@ -19,6 +19,7 @@ use std::ops::Range;
 /// The verdict of a struct, on both sides.
 fn judge(comparison: &mut Comparison, state: State, replayed: Replayed) -> Seen {
     let lent = Lent::new(0, 0);
+    let replayed = Box::new(replayed);
     let call = Call::Verdict { replayed };
     comparison.check(&Case { state, lent, call })
 }

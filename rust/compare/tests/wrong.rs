@@ -14,6 +14,7 @@ use compare::traffic::Traffic;
 use compare::values::not_register;
 use compare::verdicts::any_replayed;
 use compare::watch::Watch;
+use model::machine::DP_STATUS;
 use ofersky::{Findings, Verdict, LISTING_BYTES, NOTHING_COMPARED, PASSED};
 use std::panic::{catch_unwind, set_hook, take_hook, AssertUnwindSafe};
 
@@ -118,12 +119,71 @@ fn clears_the_next_byte(case: &Case) -> Seen {
     seen
 }
 
-/// A run in which the DP waits until the SP has taken all its turns.
+/// A run in which the others wait until the SP has taken all its turns.
 fn all_sp_turns_first(case: &Case) -> Seen {
     sp_first(case)
 }
 
-/// The words that the DP handed out given as the SP's count, and the reverse.
+/// A run whose first turn is the consumer's.
+fn begins_with_the_consumer(case: &Case) -> Seen {
+    let Call::Run { budgets, out } = case.call else {
+        return model(case);
+    };
+    let [sp, dp, consumer] = budgets;
+    let run = |state, budgets, out| {
+        let (lent, call) = (case.lent, Call::Run { budgets, out });
+        model(&Case { state, lent, call })
+    };
+    let first = run(case.state, [0, 0, consumer.min(1)], out);
+    let (state, taken) = (first.outcome.state, first.words as usize);
+    let mut seen = run(state, [sp, dp, consumer - first.words], out - 8 * taken);
+    let words = [
+        &first.bytes[3][..8 * taken],
+        &seen.bytes[3][..8 * seen.words as usize],
+    ]
+    .concat();
+    seen.bytes[3] = case.call.output();
+    seen.bytes[3][..words.len()].copy_from_slice(&words);
+    seen.words += first.words;
+    seen
+}
+
+/// A run that fetches no more words than the output has room for.
+fn no_fetch_without_room(case: &Case) -> Seen {
+    let mut case = case.clone();
+    if let Call::Run { budgets, out } = &mut case.call {
+        budgets[1] = budgets[1].min(*out as u32 / 8);
+    }
+    model(&case)
+}
+
+/// The oldest word always taken from slot 0.
+fn ring_from_slot_0(case: &Case) -> Seen {
+    let mut case = case.clone();
+    case.state.dp.head = 0;
+    model(&case)
+}
+
+/// A refusal that clears the slot behind the last word.
+fn clears_a_slot_and_declines(case: &Case) -> Seen {
+    let mut seen = model(case);
+    let dp = &case.state.dp;
+    if seen.number() != 0 && dp.queued < 32 {
+        let slot = dp.head.wrapping_add(dp.queued) % 32;
+        seen.outcome.state.queue[usize::from(slot)] = 0;
+    }
+    seen
+}
+
+/// The bit of the queued words shown where words are left of a command.
+fn bit_6_by_words_left(case: &Case) -> Seen {
+    let mut seen = model(case);
+    let value = &mut seen.outcome.answer.value;
+    *value = *value & !0x40 | u64::from(case.state.dp.wordsleft > 0) << 6;
+    seen
+}
+
+/// The words that were consumed given as the SP's count, and the reverse.
 fn counts_exchanged(case: &Case) -> Seen {
     let mut seen = model(case);
     let count = &mut seen.outcome.answer.count;
@@ -169,7 +229,7 @@ fn stopped_recording(random: &mut Random) -> Case {
 
 /// A struct of any numbers, to be judged.
 fn verdict(random: &mut Random) -> Case {
-    let replayed = any_replayed(random);
+    let replayed = Box::new(any_replayed(random));
     let (state, lent) = (sound(random, 4_096), Lent::new(0, 0));
     let call = Call::Verdict { replayed };
     Case { state, lent, call }
@@ -177,7 +237,7 @@ fn verdict(random: &mut Random) -> Case {
 
 fn bad_read(random: &mut Random) -> Case {
     let address = not_register(random);
-    let (state, lent) = (ofersky::power_up(), Lent::new(0, 0));
+    let (state, lent) = (sound(random, 4_096), Lent::new(0, 0));
     let call = Call::Read { address };
     Case { state, lent, call }
 }
@@ -185,9 +245,24 @@ fn bad_read(random: &mut Random) -> Case {
 fn run(random: &mut Random) -> Case {
     let state = both_busy(random, 4_096);
     let lent = Lent::new(4_096, random.below(1_000) + 1);
-    let budgets = [random.word(), random.word()];
+    let budgets = [random.word(), random.word(), random.word()];
     let call = Call::Run { budgets, out: 64 };
     Case { state, lent, call }
+}
+
+fn consumer_turn(random: &mut Random) -> Case {
+    let (state, lent) = (sound(random, 4_096), Lent::new(0, 0));
+    let call = Call::ConsumerTurn;
+    Case { state, lent, call }
+}
+
+fn dp_status(random: &mut Random) -> Case {
+    let address = DP_STATUS;
+    let call = Call::Read { address };
+    Case {
+        call,
+        ..consumer_turn(random)
+    }
 }
 
 fn sp_turn(random: &mut Random) -> Case {
@@ -219,8 +294,8 @@ fn shown_recording(report: &str) -> Vec<u8> {
     (0..hex.len() / 2).map(byte).collect()
 }
 
-/// The reports of these twelve, with the panic's own message kept off the screen.
-fn reports() -> [String; 12] {
+/// The reports of these twelve, and of five that are wrong about the queue, with the panic's own message kept off the screen.
+fn reports() -> ([String; 12], [String; 5]) {
     let hook = take_hook();
     set_hook(Box::new(|_| {}));
     let reports = [
@@ -237,17 +312,25 @@ fn reports() -> [String; 12] {
         reported(all_sp_turns_first, "call", run),
         reported(counts_exchanged, "call", run),
     ];
+    let queues = [
+        reported(begins_with_the_consumer, "call", run),
+        reported(no_fetch_without_room, "call", run),
+        reported(ring_from_slot_0, "call", consumer_turn),
+        reported(clears_a_slot_and_declines, "call", bad_read),
+        reported(bit_6_by_words_left, "call", dp_status),
+    ];
     set_hook(hook);
-    for report in &reports {
+    for report in reports.iter().chain(&queues) {
         println!("{report}");
     }
-    reports
+    (reports, queues)
 }
 
 #[test]
 fn wrong_sides_are_found() {
+    let (reports, queues) = reports();
     let [skip, line_end, framing, declined, room, next_byte, place, number, found, pass, order, counts] =
-        reports();
+        reports;
 
     let shortest = shown_recording(&skip);
     assert!(skip.starts_with("difference at recording "));
@@ -259,7 +342,8 @@ fn wrong_sides_are_found() {
     assert!(line_end.contains("\n  written: expected 0x"));
 
     assert!(framing.starts_with("difference at call "));
-    assert!(framing.contains("run, SP budget 0x0, DP budget 0x1, output of 8 bytes\n"));
+    assert!(framing.contains(&shown_run([0, 0, 1], 8)));
+    assert!(framing.contains("state: dp.queued 0x1, dp.head 0x"));
     assert!(framing.contains("\n  dp.line: expected 0x1 by the model, given 0x0 by the library"));
 
     assert!(declined.contains("state: as at power-up\n"));
@@ -277,12 +361,37 @@ fn wrong_sides_are_found() {
     dropped_findings_are_found(&found);
     judged_struct_is_found(&pass);
     wrong_runs_are_found(&order, &counts);
+    wrong_queues_are_found(&queues);
 }
 
-/// Two SP turns show that the DP's first did not come between them. One turn shows which engine's a count is.
+/// A run as reports show it.
+fn shown_run([sp, dp, consumer]: [u32; 3], out: usize) -> String {
+    format!("run, SP budget 0x{sp:X}, DP budget 0x{dp:X}, consumer budget 0x{consumer:X}, output of {out} bytes\n")
+}
+
+/// Each by the least that shows it. A word taken early from a full queue lets the DP fetch before the SP's second turn.
+fn wrong_queues_are_found([begins, room, ring, declined, bit_6]: &[String; 5]) {
+    assert!(begins.contains(&shown_run([2, 1, 1], 8)));
+    assert!(begins.contains("dp.queued 0x20\n"));
+    assert!(begins.contains("\n  queue[31]: expected "));
+
+    assert!(room.contains(&shown_run([0, 1, 0], 0)));
+    assert!(room.contains("\n  dp.queued: expected 0x1 by the model, given 0x0 by the library"));
+
+    assert!(ring.contains("state: dp.queued 0x1, dp.head 0x1, queue[1] 0x1\n"));
+    assert!(ring.contains("\n  value: expected 0x1 by the model, given 0x0 by the library"));
+
+    assert!(declined.contains("state: queue[0] 0x1\n"));
+    assert!(declined.contains("\n  queue[0]: expected 0x1 by the model, given 0x0"));
+
+    assert!(bit_6.contains("state: dp.wordsleft 0x1\n"));
+    assert!(bit_6.contains("\n  value: expected 0x80 by the model, given 0xC0 by the library"));
+}
+
+/// Two SP turns show that the DP's first did not come between them. One turn shows whose a count is.
 fn wrong_runs_are_found(order: &str, counts: &str) {
-    assert!(order.contains("run, SP budget 0x2, DP budget 0x1, output of 8 bytes\n"));
-    assert!(order.contains("\n  output at 0x0: expected "));
+    assert!(order.contains(&shown_run([2, 1, 0], 0)));
+    assert!(order.contains("\n  queue[0]: expected "));
     assert!(counts.contains("\n  count: expected 0x"));
     assert!(counts.contains("\n  words: expected 0x"));
 }

@@ -22,6 +22,8 @@ pub const NOT_SOUND: u32 = 4;
 
 const LARGEST_RDRAM: usize = 16_777_216;
 const WORD_BYTES: usize = 8;
+/// Slots of the ring that a caller keeps the queued words in.
+const SLOTS: u8 = 32;
 
 /// The SP engine. In `signals`, SIG0 to SIG7 are bits 0 to 7.
 #[derive(Clone, Copy, Debug, Default, PartialEq, Eq)]
@@ -67,12 +69,17 @@ pub struct DpState {
     pub pipebusy: u8,
     pub wordsleft: u8,
     pub line: u8,
+    /// The slot of the oldest queued word in a caller's ring. The model keeps
+    /// its queue without slots, so it hands this number on as it was handed in.
+    pub head: u8,
 }
 
-#[derive(Clone, Copy, Debug, Default, PartialEq, Eq)]
+/// Both engines, and the queued words, the oldest first.
+#[derive(Clone, Debug, Default, PartialEq, Eq)]
 pub struct State {
     pub sp: SpState,
     pub dp: DpState,
+    pub queue: Vec<u64>,
 }
 
 /// What a call gives back beside the state; number 0 is success.
@@ -83,14 +90,14 @@ pub struct Answer {
     pub count: u32,
 }
 
-#[derive(Clone, Copy, Debug, Default, PartialEq, Eq)]
+#[derive(Clone, Debug, Default, PartialEq, Eq)]
 pub struct Outcome {
     pub state: State,
     pub answer: Answer,
 }
 
-/// A run's outcome, whose count is the SP's, and the DP's count.
-#[derive(Clone, Copy, Debug, Default, PartialEq, Eq)]
+/// A run's outcome, whose count is the SP's, and the consumer's count.
+#[derive(Clone, Debug, Default, PartialEq, Eq)]
 pub struct Ran {
     pub outcome: Outcome,
     pub words: u32,
@@ -118,7 +125,7 @@ pub struct Reading {
 /// A replay's outcome, the place where the refused record begins, which is 0 if
 /// there is none, how many bytes of its listing were written, and what its reads
 /// and checks found.
-#[derive(Clone, Copy, Debug, Default, PartialEq, Eq)]
+#[derive(Clone, Debug, Default, PartialEq, Eq)]
 pub struct Replayed {
     pub outcome: Outcome,
     pub place: usize,
@@ -196,8 +203,9 @@ fn sp_of(state: &SpState) -> Option<Sp> {
     })
 }
 
-/// The DP engine as the rules know it, or none where a byte is no flag.
-fn dp_of(state: &DpState) -> Option<Dp> {
+/// The DP engine and its queue as the rules know them, or none where a byte is
+/// no flag.
+fn dp_of(state: &DpState, queue: &[u64]) -> Option<Dp> {
     Some(Dp {
         start: state.start,
         end: state.end,
@@ -210,6 +218,7 @@ fn dp_of(state: &DpState) -> Option<Dp> {
         flush: flag(state.flush)?,
         pipe_busy: flag(state.pipebusy)?,
         words_left: state.wordsleft.into(),
+        queue: queue.iter().copied().collect(),
         clock: state.clock,
         cmd_busy_counter: state.cmdcount,
         pipe_busy_counter: state.pipecount,
@@ -246,7 +255,7 @@ fn sp_state(sp: &Sp) -> SpState {
 }
 
 /// The DP engine as a caller knows it.
-fn dp_state(dp: &Dp) -> DpState {
+fn dp_state(dp: &Dp, head: u8) -> DpState {
     DpState {
         start: dp.start,
         end: dp.end,
@@ -264,13 +273,14 @@ fn dp_state(dp: &Dp) -> DpState {
         pipebusy: dp.pipe_busy.into(),
         wordsleft: dp.words_left as u8,
         line: dp.line.into(),
+        head,
     }
 }
 
 /// A machine over these memories, or the number 4.
 fn machine<M>(state: &State, rdram: M, dmem: M, imem: M) -> Result<Machine<M>, u32> {
     let sp = sp_of(&state.sp).ok_or(NOT_SOUND)?;
-    let dp = dp_of(&state.dp).ok_or(NOT_SOUND)?;
+    let dp = dp_of(&state.dp, &state.queue).ok_or(NOT_SOUND)?;
     let machine = Machine {
         sp,
         dp,
@@ -278,7 +288,7 @@ fn machine<M>(state: &State, rdram: M, dmem: M, imem: M) -> Result<Machine<M>, u
         dmem,
         imem,
     };
-    if machine.is_sound() {
+    if machine.is_sound() && state.dp.head < SLOTS {
         Ok(machine)
     } else {
         Err(NOT_SOUND)
@@ -290,11 +300,12 @@ fn without_memory(state: &State) -> Result<Machine<()>, u32> {
     machine(state, (), (), ())
 }
 
-/// The state that a machine is in.
-fn state_of<M>(machine: &Machine<M>) -> State {
+/// The state that a machine is in, after a call on this one.
+fn state_of<M>(before: &State, machine: &Machine<M>) -> State {
     State {
         sp: sp_state(&machine.sp),
-        dp: dp_state(&machine.dp),
+        dp: dp_state(&machine.dp, before.dp.head),
+        queue: machine.dp.queue.iter().copied().collect(),
     }
 }
 
@@ -345,7 +356,7 @@ fn without_imem<'a>(
 fn outcome(state: &State, done: Result<(State, u64, u32), u32>) -> Outcome {
     let (number, (state, value, count)) = match done {
         Ok(success) => (0, success),
-        Err(number) => (number, (*state, 0, 0)),
+        Err(number) => (number, (state.clone(), 0, 0)),
     };
     Outcome {
         state,
@@ -371,7 +382,7 @@ pub fn is_sound(state: &State) -> bool {
 pub fn read_register(state: &State, address: u32) -> Outcome {
     let done = without_memory(state).and_then(|mut machine| {
         let value = machine.read(address)?;
-        Ok((state_of(&machine), value.into(), 0))
+        Ok((state_of(state, &machine), value.into(), 0))
     });
     outcome(state, done)
 }
@@ -380,7 +391,7 @@ pub fn read_register(state: &State, address: u32) -> Outcome {
 pub fn write_register(state: &State, address: u32, value: u32) -> Outcome {
     let done = without_memory(state).and_then(|mut machine| {
         machine.write(address, value)?;
-        Ok((state_of(&machine), 0, 0))
+        Ok((state_of(state, &machine), 0, 0))
     });
     outcome(state, done)
 }
@@ -388,7 +399,7 @@ pub fn write_register(state: &State, address: u32, value: u32) -> Outcome {
 pub fn tick(state: &State, n: u32) -> Outcome {
     let done = without_memory(state).map(|mut machine| {
         machine.tick(n);
-        (state_of(&machine), 0, 0)
+        (state_of(state, &machine), 0, 0)
     });
     outcome(state, done)
 }
@@ -396,7 +407,7 @@ pub fn tick(state: &State, n: u32) -> Outcome {
 pub fn sp_break(state: &State) -> Outcome {
     let done = without_memory(state).map(|mut machine| {
         machine.break_();
-        (state_of(&machine), 0, 0)
+        (state_of(state, &machine), 0, 0)
     });
     outcome(state, done)
 }
@@ -404,7 +415,7 @@ pub fn sp_break(state: &State) -> Outcome {
 pub fn acknowledge(state: &State) -> Outcome {
     let done = without_memory(state).map(|mut machine| {
         machine.acknowledge();
-        (state_of(&machine), 0, 0)
+        (state_of(state, &machine), 0, 0)
     });
     outcome(state, done)
 }
@@ -413,31 +424,40 @@ pub fn acknowledge(state: &State) -> Outcome {
 pub fn sp_turn(state: &State, rdram: &mut [u8], dmem: &mut [u8], imem: &mut [u8]) -> Outcome {
     let done = with_all(state, rdram, dmem, imem).map(|mut machine| {
         let count = machine.sp_turn();
-        (state_of(&machine), 0, count)
+        (state_of(state, &machine), 0, count)
     });
     outcome(state, done)
 }
 
-/// One DP turn. The value is the word handed out, and the count is 1 if there
-/// was one.
+/// One DP turn: a fetch into the queue. The count is 1 if it fetched a word.
 pub fn dp_turn(state: &State, rdram: &[u8], dmem: &[u8]) -> Outcome {
     let done = without_imem(state, rdram, dmem).map(|mut machine| {
-        let word = machine.dp_turn();
-        (
-            state_of(&machine),
-            word.unwrap_or(0),
-            u32::from(word.is_some()),
-        )
+        let count = machine.dp_turn();
+        (state_of(state, &machine), 0, count)
     });
     outcome(state, done)
 }
 
-/// A run of both engines by turns. The outcome's count is the number of words
-/// that the SP moved; `words` are those that the DP handed out into `out`.
+/// One consumer turn, which takes no memory. The value is the word handed out,
+/// and the count is 1 if there was one.
+pub fn consumer_turn(state: &State) -> Outcome {
+    let done = without_memory(state).map(|mut machine| {
+        let word = machine.consumer_turn();
+        let count = u32::from(word.is_some());
+        (state_of(state, &machine), word.unwrap_or(0), count)
+    });
+    outcome(state, done)
+}
+
+/// A run by turns of the SP, the DP and the consumer. The outcome's count is the
+/// number of words that the SP moved; `words` are those that the consumer handed
+/// out into `out`.
+#[allow(clippy::too_many_arguments)]
 pub fn run(
     state: &State,
     sp_budget: u32,
     dp_budget: u32,
+    consumer_budget: u32,
     rdram: &mut [u8],
     dmem: &mut [u8],
     imem: &mut [u8],
@@ -445,9 +465,9 @@ pub fn run(
 ) -> Ran {
     let mut words = 0;
     let done = with_all(state, rdram, dmem, imem).map(|mut machine| {
-        let counts = machine.run(sp_budget, dp_budget, out);
-        words = counts.handed;
-        (state_of(&machine), 0, counts.moved)
+        let counts = machine.run(sp_budget, dp_budget, consumer_budget, out);
+        words = counts.consumed;
+        (state_of(state, &machine), 0, counts.moved)
     });
     Ran {
         outcome: outcome(state, done),
@@ -455,10 +475,11 @@ pub fn run(
     }
 }
 
-/// Where the next drawing word stands. An empty part is at the start of the
-/// memory that XBUS selects, or of RDRAM where a byte of the state is no flag.
+/// Where the word at CURRENT stands, also while the queue is full. An empty part
+/// is at the start of the memory that XBUS selects, or of RDRAM where a byte of
+/// the state is no flag.
 pub fn look_ahead(state: &State, rdram: &[u8], dmem: &[u8]) -> Part {
-    let (Some(_), Some(dp)) = (sp_of(&state.sp), dp_of(&state.dp)) else {
+    let (Some(_), Some(dp)) = (sp_of(&state.sp), dp_of(&state.dp, &state.queue)) else {
         return Part::default();
     };
     let empty = Part {
@@ -558,9 +579,9 @@ pub fn replay(
     let (state, replay) = match ready {
         Ok(mut machine) => {
             let replay = recording::replay(&mut machine, recording);
-            (state_of(&machine), replay)
+            (state_of(state, &machine), replay)
         }
-        Err(number) => (*state, recording::refused(number)),
+        Err(number) => (state.clone(), recording::refused(number)),
     };
     let listing = replay.listing.as_bytes();
     let written = listing.len().min(out.len());

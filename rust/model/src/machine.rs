@@ -3,6 +3,7 @@
 //! The public methods of `Machine` are the paper's calls on a state that is sound
 //! and memories of an allowed length.
 
+use std::collections::VecDeque;
 use std::ops::{Deref, DerefMut};
 
 /// The number for a multiple of 4 at which no register stands.
@@ -85,6 +86,8 @@ const SP_ADDRESS_BITS: u32 = 0x1FF8;
 const LENGTH_BITS: u32 = 0xFF8;
 const IMEM_BIT: u32 = 0x1000;
 const SYNC_FULL: u8 = 0x29;
+/// Words that the command queue has room for.
+const QUEUE_WORDS: usize = 32;
 
 /// The state of the SP engine.
 #[derive(Clone, Debug, Default, PartialEq, Eq)]
@@ -133,10 +136,12 @@ pub struct Dp {
     pub xbus: bool,
     pub freeze: bool,
     pub flush: bool,
-    /// On from the first word fetched until a SYNC_FULL.
+    /// On from the first word fetched until a SYNC_FULL is consumed.
     pub pipe_busy: bool,
-    /// Words of the present command that are still to come.
+    /// Words of the present command that are still to be consumed.
     pub words_left: u32,
+    /// The words that were fetched and not consumed yet, the oldest first.
+    pub queue: VecDeque<u64>,
     pub clock: u32,
     pub cmd_busy_counter: u32,
     pub pipe_busy_counter: u32,
@@ -156,12 +161,13 @@ pub struct Machine<M = Vec<u8>> {
     pub imem: M,
 }
 
-/// How many words a run took: those that the SP moved, and those that the DP
-/// handed out.
+/// How many words a run took: those that the SP moved, those that the DP
+/// fetched into the queue, and those that the consumer took out of it.
 #[derive(Clone, Copy, Debug, Default, PartialEq, Eq)]
 pub struct Counts {
     pub moved: u32,
-    pub handed: u32,
+    pub fetched: u32,
+    pub consumed: u32,
 }
 
 /// Is this bit of a number on?
@@ -356,13 +362,18 @@ impl Dp {
         }
     }
 
+    /// CMD_BUSY: the queue holds a word. Words left play no part.
+    fn cmd_busy(&self) -> bool {
+        !self.queue.is_empty()
+    }
+
     fn read_status(&self) -> u32 {
         u32::from(self.xbus)
             | u32::from(self.freeze) << 1
             | u32::from(self.flush) << 2
             | u32::from(self.pipe_busy) << 3
             | u32::from(self.pipe_busy) << 5
-            | u32::from(self.words_left > 0) << 6
+            | u32::from(self.cmd_busy()) << 6
             | 1 << 7
             | u32::from(self.runs()) << 8
             | u32::from(self.end_pending) << 9
@@ -381,6 +392,7 @@ impl Dp {
             self.start_pending = false;
             self.end_pending = false;
             self.words_left = 0;
+            self.queue.clear();
         }
         if !self.freeze && self.end_pending && !self.runs() {
             self.start_list();
@@ -402,12 +414,23 @@ impl Dp {
         }
     }
 
+    /// Puts a word behind those that are queued and goes on to the next one.
+    /// Every word fetched sets PIPE_BUSY, whichever word of its command it is.
+    /// It is not framed yet.
+    fn fetch(&mut self, word: u64) {
+        self.queue.push_back(word);
+        self.pipe_busy = true;
+        self.current += 8;
+        if self.current == self.limit && self.end_pending {
+            self.start_list();
+        }
+    }
+
     /// Takes a word into the command it belongs to. Only the first word of a
     /// command has an opcode: its first byte, of which the top two bits are
-    /// not looked at. PIPE_BUSY changes here and nowhere else: every word sets
-    /// it, whichever word of its command it is, and a SYNC_FULL then clears it.
+    /// not looked at. A SYNC_FULL clears PIPE_BUSY, and no other word here
+    /// changes it.
     fn frame(&mut self, word: u64) {
-        self.pipe_busy = true;
         if self.words_left > 0 {
             self.words_left -= 1;
             return;
@@ -431,6 +454,7 @@ impl Dp {
             && (!self.end_pending || self.freeze || self.runs())
             && (!self.flush || !self.runs())
             && self.words_left <= 21
+            && self.queue.len() <= QUEUE_WORDS
     }
 }
 
@@ -501,7 +525,7 @@ impl<M> Machine<M> {
         let plus = |counter: u32| (counter % SPAN_24 + n % SPAN_24) % SPAN_24;
         let dp = &mut self.dp;
         dp.clock = plus(dp.clock);
-        if dp.words_left > 0 {
+        if dp.cmd_busy() {
             dp.cmd_busy_counter = plus(dp.cmd_busy_counter);
         }
         if dp.pipe_busy {
@@ -521,6 +545,30 @@ impl<M> Machine<M> {
     /// Lowers the DP line.
     pub fn acknowledge(&mut self) {
         self.dp.line = false;
+    }
+
+    /// One consumer turn. Takes the oldest queued word, frames it and hands it
+    /// out, or gives none if nothing changed.
+    pub fn consumer_turn(&mut self) -> Option<u64> {
+        if self.dp.freeze {
+            return None;
+        }
+        let word = self.dp.queue.pop_front()?;
+        self.dp.frame(word);
+        Some(word)
+    }
+
+    /// One consumer turn whose word goes into this room. Without room there is
+    /// no turn. Gives 1 if it put out a word.
+    fn consumer_turn_into(&mut self, room: Option<&mut [u8]>) -> u32 {
+        let Some(room) = room else {
+            return 0;
+        };
+        let Some(word) = self.consumer_turn() else {
+            return 0;
+        };
+        room.copy_from_slice(&word.to_be_bytes());
+        1
     }
 }
 
@@ -553,47 +601,45 @@ impl<M: DerefMut<Target = [u8]>> Machine<M> {
         }
     }
 
-    /// SP turn, DP turn, SP turn and so on. An engine whose turn would do
-    /// nothing is passed over, and so is one whose budget is used, and the DP
-    /// where the output has no room. The run ends with the round in which both
-    /// are. Words stand in the output from its start; its rest is untouched.
-    pub fn run(&mut self, sp_budget: u32, dp_budget: u32, output: &mut [u8]) -> Counts {
+    /// SP turn, DP turn, which is a fetch, consumer turn, SP turn and so on. A
+    /// turn that would do nothing is passed over, and so is one whose budget is
+    /// used, and the consumer's where the output has no room. The run ends with
+    /// the round in which all three are. Words stand in the output from its
+    /// start; its rest is untouched.
+    pub fn run(
+        &mut self,
+        sp_budget: u32,
+        dp_budget: u32,
+        consumer_budget: u32,
+        output: &mut [u8],
+    ) -> Counts {
         let mut done = Counts::default();
         loop {
             let before = done;
             if done.moved < sp_budget {
                 done.moved += self.sp_turn();
             }
-            if done.handed < dp_budget {
-                let room = output.chunks_exact_mut(8).nth(done.handed as usize);
-                done.handed += self.dp_turn_into(room);
+            if done.fetched < dp_budget {
+                done.fetched += self.dp_turn();
+            }
+            if done.consumed < consumer_budget {
+                let room = output.chunks_exact_mut(8).nth(done.consumed as usize);
+                done.consumed += self.consumer_turn_into(room);
             }
             if done == before {
                 return done;
             }
         }
     }
-
-    /// One DP turn whose word goes into this room. Without room there is no
-    /// turn. Gives 1 if it put out a word.
-    fn dp_turn_into(&mut self, room: Option<&mut [u8]>) -> u32 {
-        let Some(room) = room else {
-            return 0;
-        };
-        let Some(word) = self.dp_turn() else {
-            return 0;
-        };
-        room.copy_from_slice(&word.to_be_bytes());
-        1
-    }
 }
 
 /// What only reads memory.
 impl<M: Deref<Target = [u8]>> Machine<M> {
-    /// One DP turn. Gives the word handed out, or none if nothing changed.
-    pub fn dp_turn(&mut self) -> Option<u64> {
-        if !self.dp.runs() || self.dp.freeze {
-            return None;
+    /// One DP turn: fetches the word at CURRENT into the queue, if it isn't
+    /// full. Gives 1 if it fetched a word, 0 if nothing changed.
+    pub fn dp_turn(&mut self) -> u32 {
+        if !self.dp.runs() || self.dp.freeze || self.dp.queue.len() == QUEUE_WORDS {
+            return 0;
         }
         // XBUS is looked at each turn, so a list may change memory midway.
         let word = if self.dp.xbus {
@@ -601,11 +647,7 @@ impl<M: Deref<Target = [u8]>> Machine<M> {
         } else {
             load_word(&self.rdram, self.dp.current)
         };
-        self.dp.frame(word);
-        self.dp.current += 8;
-        if self.dp.current == self.dp.limit && self.dp.end_pending {
-            self.dp.start_list();
-        }
-        Some(word)
+        self.dp.fetch(word);
+        1
     }
 }

@@ -287,17 +287,20 @@ fn sp_line(counts: Counts) -> String {
     format!("S {:08X}\n", counts.moved)
 }
 
-/// The line of what the DP did in a run.
+/// The line of what the consumer did in a run.
 fn dp_line(counts: Counts) -> String {
-    format!("D {:08X}\n", counts.handed)
+    format!("D {:08X}\n", counts.consumed)
 }
 
-/// A run of a replay. Its output is its own, and nobody looks at the words.
+/// A run of a replay, in which the consumer has the same budget as the fetch.
+/// Its output is its own, and nobody looks at the words.
 fn run<M>(machine: &mut Machine<M>, sp_budget: u32, dp_budget: u32) -> Counts
 where
     M: DerefMut<Target = [u8]>,
 {
-    machine.run(sp_budget, dp_budget, &mut [0; OUTPUT_BYTES])
+    let consumer_budget = dp_budget;
+    let output = &mut [0; OUTPUT_BYTES];
+    machine.run(sp_budget, dp_budget, consumer_budget, output)
 }
 
 /// What is seen of a record that was done.

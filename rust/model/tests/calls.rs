@@ -106,7 +106,7 @@ fn m9_a_waiting_list() {
     bench.writes(&[(DP_START, 0x3000), (DP_END, 0x3008)]);
     bench.reads(&[(DP_STATUS, 0x780)]);
     for _ in 0..3 {
-        assert_eq!(bench.dp_turn(), success(0, 1));
+        assert_eq!(bench.fetch_and_consume(), success(0, 1));
     }
     bench.reads(&[(DP_CURRENT, 0x3000), (DP_STATUS, 0x1A8)]);
     bench.lines(0, 0);
@@ -117,7 +117,7 @@ fn m10_freeze() {
     let mut bench = Bench::new();
     bench.writes(&[(DP_STATUS, 8), (DP_START, 0x2000), (DP_END, 0x2008)]);
     bench.reads(&[(DP_STATUS, 0x682)]);
-    assert_eq!(bench.dp_turn(), success(0, 0));
+    assert_eq!(bench.fetch_and_consume(), success(0, 0));
     bench.writes(&[(DP_STATUS, 4)]);
     bench.reads(&[(DP_STATUS, 0x180)]);
     bench.lines(0, 0);
@@ -129,19 +129,21 @@ fn m11_sync_full_with_top_bits() {
     bench.rdram[0x2000] = 0xE9;
     bench.writes(&[(DP_START, 0x2000), (DP_END, 0x2008)]);
     bench.lines(0, 0);
-    assert_eq!(bench.dp_turn(), success(0xE9 << 56, 1));
+    assert_eq!(bench.fetch_and_consume(), success(0xE9 << 56, 1));
     bench.lines(0, 1);
     bench.reads(&[(DP_STATUS, 0x80)]);
-    let raised = bench.state;
+    let raised = bench.state.clone();
     bench.took(acknowledge(&raised), success(0, 0));
     bench.lines(0, 0);
 }
 
+/// One fetch and no consumer turn.
 #[test]
 fn m12_flush() {
     let mut bench = Bench::new();
     bench.writes(&[(DP_START, 0x2000), (DP_END, 0x2018)]);
-    assert_eq!(bench.dp_turn(), success(0, 1));
+    bench.fetches(1);
+    bench.reads(&[(DP_STATUS, 0x1E8)]);
     bench.writes(&[(DP_STATUS, 0x20)]);
     bench.reads(&[(DP_CURRENT, 0x2008), (DP_STATUS, 0xAC)]);
     bench.lines(0, 0);
@@ -151,25 +153,26 @@ fn m12_flush() {
 #[test]
 fn break_acknowledge_and_tick_change_only_their_fields() {
     let full = full_state();
-    let mut after = full;
+    let mut after = full.clone();
     after.sp.halted = 1;
     after.sp.broke = 1;
     after.sp.line = 1;
     let outcome = sp_break(&full);
-    assert_eq!((outcome.state, outcome.answer), (after, success(0, 0)));
+    assert_eq!(outcome.answer, success(0, 0));
+    assert_eq!(outcome.state, after);
 
-    let mut quiet = full;
+    let mut quiet = full.clone();
     quiet.sp.intbreak = 0;
     after.sp.intbreak = 0;
     after.sp.line = 0;
     assert_eq!(sp_break(&quiet).state, after);
 
-    let mut after = full;
+    let mut after = full.clone();
     after.dp.line = 0;
     assert_eq!(acknowledge(&full).state, after);
 
     // 24 bits: the second sum wraps, and a tick is cut like its sum.
-    after = full;
+    after = full.clone();
     after.dp.clock = 0x1010;
     after.dp.cmdcount = 0x0F;
     after.dp.pipecount = 0x1030;
@@ -181,14 +184,18 @@ fn break_acknowledge_and_tick_change_only_their_fields() {
 fn counters_stand_where_their_status_bits_are_off() {
     let mut state = full_state();
     state.dp.cmdcount = 0x20;
-    for (wordsleft, pipebusy) in [(0, 0), (0, 1), (1, 0), (21, 1)] {
-        state.dp.wordsleft = wordsleft;
-        state.dp.pipebusy = pipebusy;
-        let mut after = state;
-        after.dp.clock = 0x13;
-        after.dp.cmdcount = if wordsleft > 0 { 0x23 } else { 0x20 };
-        after.dp.pipecount = if pipebusy == 1 { 0x33 } else { 0x30 };
-        assert_eq!(tick(&state, 3).state, after);
+    // Words left play no part in CMD_BUSY: a queued word does.
+    for (queued, wordsleft) in [(0, 0), (0, 21), (1, 0), (1, 21), (2, 0), (32, 1)] {
+        for pipebusy in [0, 1] {
+            state.queue = vec![0; queued];
+            state.dp.wordsleft = wordsleft;
+            state.dp.pipebusy = pipebusy;
+            let mut after = state.clone();
+            after.dp.clock = 0x13;
+            after.dp.cmdcount = if queued > 0 { 0x23 } else { 0x20 };
+            after.dp.pipecount = if pipebusy == 1 { 0x33 } else { 0x30 };
+            assert_eq!(tick(&state, 3).state, after);
+        }
     }
 }
 
@@ -219,7 +226,7 @@ fn each_register_reads_its_field() {
     for (address, value) in expected {
         let outcome = read_register(&state, address);
         assert_eq!(outcome.answer, success(value, 0), "{address:08X}");
-        let mut after = state;
+        let mut after = state.clone();
         after.sp.semaphore = u8::from(address == SP_SEMAPHORE);
         assert_eq!(outcome.state, after, "{address:08X}");
     }
@@ -332,9 +339,11 @@ fn a_run_of_the_dp_writes_whole_words_and_leaves_the_rest() {
         let bytes = 8 * words as usize;
         assert_eq!(out[..bytes], bench.rdram[0x4000..0x4000 + bytes]);
         assert!(out[bytes..].iter().all(|byte| *byte == 0x55));
+        // The room ends the consumer alone: all five words are fetched there.
         let mut turned = bench.clone();
+        turned.fetches(budget.min(5));
         for _ in 0..words {
-            assert_eq!(turned.dp_turn().count, 1);
+            assert_eq!(turned.consumer_turn().count, 1);
         }
         assert!(run == turned, "{length} {budget}");
     }
@@ -369,9 +378,11 @@ fn a_dp_word_past_the_lent_length_is_zeros_and_counts() {
     bench.writes(&[(DP_START, 0xFFF8), (DP_END, 0x1_0008)]);
     let last = u64::from_be_bytes(bench.rdram[0xFFF8..].try_into().expect("8 bytes"));
     assert!(last != 0);
-    assert_eq!(bench.dp_turn(), success(last, 1));
-    assert_eq!(bench.dp_turn(), success(0, 1));
+    bench.fetches(2);
     assert_eq!(bench.dp_turn(), success(0, 0));
+    assert_eq!(bench.consumer_turn(), success(last, 1));
+    assert_eq!(bench.consumer_turn(), success(0, 1));
+    assert_eq!(bench.consumer_turn(), success(0, 0));
 }
 
 #[test]
@@ -430,7 +441,7 @@ fn expect_address(address: u32, number: u32) {
     assert_eq!(write.answer.number, number, "{address:08X}");
     if number != 0 {
         let declined = declined(&state, number);
-        assert_eq!((read, write), (declined, declined));
+        assert_eq!((&read, &write), (&declined, &declined));
     }
     let mut unsound = state;
     unsound.sp.count = 256;
@@ -540,7 +551,7 @@ fn every_number_must_fit_its_field() {
 fn expect_unsound(state: &State, name: &str) {
     assert!(!is_sound(state), "{name}");
     let mut bench = Bench::running();
-    bench.state = *state;
+    bench.state = state.clone();
     expect_numbers(&bench, 4, 4);
     expect_register_calls(state, 4);
 }
@@ -611,6 +622,53 @@ fn command_words_left_are_0_to_21() {
     expect_unsound(&state, "words left");
 }
 
+/// At most 32 words, of any 64 bits each; nothing else of the state has to fit
+/// them.
+#[test]
+fn at_most_32_words_are_queued() {
+    for queued in 0..=70 {
+        for word in [0, u64::MAX, 0x29 << 56] {
+            let mut state = power_up();
+            state.queue = vec![word; queued];
+            assert_eq!(is_sound(&state), queued <= 32, "{queued}");
+            for (wordsleft, flush, pipebusy) in [(21, 0, 0), (0, 1, 1), (3, 1, 0)] {
+                state.dp.wordsleft = wordsleft;
+                (state.dp.flush, state.dp.pipebusy) = (flush, pipebusy);
+                assert_eq!(is_sound(&state), queued <= 32, "{queued}");
+            }
+        }
+    }
+    for queued in [33, 34, 64, 255] {
+        let mut state = power_up();
+        state.queue = vec![0; queued];
+        expect_unsound(&state, "queued");
+    }
+}
+
+/// The slot of the oldest word is a number of 5 bits. No call looks at it
+/// otherwise, and each hands it on.
+#[test]
+fn the_slot_of_the_oldest_word_is_below_32() {
+    for head in 0..=255 {
+        let mut state = running();
+        state.dp.head = head;
+        assert_eq!(is_sound(&state), head < 32, "{head}");
+        if head >= 32 {
+            expect_unsound(&state, "head");
+            continue;
+        }
+        let outcomes = [
+            consumer_turn(&state),
+            dp_turn(&state, &[], &[0; BANK]),
+            write_register(&state, DP_STATUS, 0x20),
+            tick(&state, 1),
+        ];
+        for outcome in outcomes {
+            assert_eq!((outcome.answer.number, outcome.state.dp.head), (0, head));
+        }
+    }
+}
+
 fn part(memory: u32, offset: u32, length: u32) -> Part {
     Part {
         memory,
@@ -619,9 +677,10 @@ fn part(memory: u32, offset: u32, length: u32) -> Part {
     }
 }
 
-/// The look shows the bytes that the next turn hands out, where they stand.
+/// The look shows the bytes that the next fetch queues, where they stand, and
+/// the same bytes while the queue is full.
 #[test]
-fn the_look_is_the_next_turns_word() {
+fn the_look_is_the_next_fetchs_word() {
     let mut bench = Bench::new();
     bench.fill();
     for (current, xbus, expected) in [
@@ -641,7 +700,12 @@ fn the_look_is_the_next_turns_word() {
         let place = look.offset as usize;
         let word = memory[place..place + 8].try_into().expect("8 bytes");
         let turn = dp_turn(&bench.state, &bench.rdram, &bench.dmem);
-        assert_eq!(turn.answer, success(u64::from_be_bytes(word), 1));
+        assert_eq!(turn.answer, success(0, 1));
+        assert_eq!(turn.state.queue, [u64::from_be_bytes(word)]);
+        let mut full = bench.clone();
+        full.state.queue = vec![5; 32];
+        assert_eq!(full.look(), expected, "{current:06X} {xbus}");
+        assert_eq!(full.dp_turn(), success(0, 0));
     }
 }
 
@@ -712,21 +776,28 @@ fn every_call_on_a_sound_state_leaves_a_sound_one() {
         let value = random.number();
         for address in REGISTERS {
             let read = read_register(&state, address);
-            bench.took(read, success(read.answer.value, 0));
+            let value_read = read.answer.value;
+            bench.took(read, success(value_read, 0));
             bench.took(write_register(&state, address, value), success(0, 0));
         }
         bench.took(tick(&state, value), success(0, 0));
         bench.took(sp_break(&state), success(0, 0));
         bench.took(acknowledge(&state), success(0, 0));
-        bench.state = state;
+        bench.state = state.clone();
         assert_eq!(bench.sp_turn(), success(0, state.sp.busy.into()));
         assert_eq!(bench.run_sp(value % 64).number, 0);
-        bench.state = state;
+        bench.state = state.clone();
         let runs = state.dp.current < state.dp.limit && state.dp.freeze == 0;
-        assert_eq!(bench.dp_turn().count, u32::from(runs));
+        let fetches = runs && state.queue.len() < 32;
+        assert_eq!(bench.dp_turn(), success(0, u32::from(fetches)));
         bench.run_dp(value % 64, &mut [0; 400]);
+        bench.state = state.clone();
+        let oldest = state.queue.first().filter(|_| state.dp.freeze == 0);
+        let expected = oldest.map_or(success(0, 0), |word| success(*word, 1));
+        assert_eq!(bench.consumer_turn(), expected);
         bench.state = state;
-        let (answer, _) = bench.run(value % 64, value / 64 % 64, &mut [0; 400]);
+        let budgets = [value % 64, value / 64 % 64, value / 4_096 % 64];
+        let (answer, _) = bench.run(budgets, &mut [0; 400]);
         assert_eq!(answer.number, 0);
     }
 }

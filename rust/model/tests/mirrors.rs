@@ -226,7 +226,7 @@ fn every_copy_reads_its_registers() {
 #[test]
 fn every_copy_writes_its_registers() {
     let full = full_state();
-    let mut started = full;
+    let mut started = full.clone();
     started.dp.start = 0xAB_CDE8;
     let mut moved = power_up();
     moved.dp.end = 0xAB_CDE8;
@@ -236,13 +236,13 @@ fn every_copy_writes_its_registers() {
     for copy in 0..0x8000 {
         let base = 0x0410_0000 + 0x20 * copy;
         let writes = [
-            (write_register(&full, base, 0x12AB_CDEF), started),
-            (write_register(&power_up(), base + 4, 0x12AB_CDEF), moved),
-            (write_register(&power_up(), base + 0xC, 2), xbus),
+            (write_register(&full, base, 0x12AB_CDEF), &started),
+            (write_register(&power_up(), base + 4, 0x12AB_CDEF), &moved),
+            (write_register(&power_up(), base + 0xC, 2), &xbus),
         ];
         for (outcome, state) in writes {
             assert_eq!(outcome.answer, success(0, 0), "{base:08X}");
-            assert_eq!(outcome.state, state, "{base:08X}");
+            assert_eq!(outcome.state, *state, "{base:08X}");
         }
     }
 }
@@ -303,7 +303,9 @@ fn expect_4_everywhere(state: &State) {
             read_register(state, address),
             write_register(state, address, 0x20),
         ];
-        assert_eq!(outcomes, [declined(state, 4); 2], "{address:08X}");
+        for outcome in outcomes {
+            assert_eq!(outcome, declined(state, 4), "{address:08X}");
+        }
     }
 }
 
@@ -348,7 +350,7 @@ fn m8_to_m10_through_mirrors() {
         bench.writes(&[(at(3, DP_START), 0x3000), (at(0, DP_END), 0x3008)]);
         bench.reads(&[(at(4, DP_STATUS), 0x780)]);
         for _ in 0..3 {
-            assert_eq!(bench.dp_turn(), success(0, 1));
+            assert_eq!(bench.fetch_and_consume(), success(0, 1));
         }
         bench.reads(&[(at(5, DP_CURRENT), 0x3000), (at(6, DP_STATUS), 0x1A8)]);
 
@@ -368,13 +370,13 @@ fn m11_and_m12_through_mirrors() {
         let mut bench = Bench::new();
         bench.rdram[0x2000] = 0xE9;
         bench.writes(&[(at(0, DP_START), 0x2000), (at(5, DP_END), 0x2008)]);
-        assert_eq!(bench.dp_turn(), success(0xE9 << 56, 1));
+        assert_eq!(bench.fetch_and_consume(), success(0xE9 << 56, 1));
         bench.lines(0, 1);
         bench.reads(&[(at(3, DP_STATUS), 0x80)]);
 
         let mut bench = Bench::new();
         bench.writes(&[(at(6, DP_START), 0x2000), (at(1, DP_END), 0x2018)]);
-        assert_eq!(bench.dp_turn(), success(0, 1));
+        bench.fetches(1);
         bench.writes(&[(at(2, DP_STATUS), 0x20)]);
         bench.reads(&[(at(0, DP_CURRENT), 0x2008), (at(7, DP_STATUS), 0xAC)]);
     }

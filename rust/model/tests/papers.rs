@@ -27,11 +27,14 @@ fn sp_turns(machine: &mut Machine, turns: u32) {
     }
 }
 
-fn dp_turns(machine: &mut Machine, turns: u32) {
-    for _ in 0..turns {
-        assert!(machine.dp_turn().is_some());
-        assert!(machine.is_sound());
-    }
+/// A turn of M9 and M11: a fetch and then a consumer turn, which hands out the
+/// word that was fetched.
+fn fetch_and_consume(machine: &mut Machine) -> u64 {
+    assert_eq!(machine.dp_turn(), 1);
+    assert!(machine.is_sound());
+    let word = machine.consumer_turn().expect("a word is queued");
+    assert!(machine.is_sound() && machine.dp.queue.is_empty());
+    word
 }
 
 /// The listing of a recording from power-up.
@@ -84,8 +87,8 @@ fn m3_ninety_six_turns_end_it() {
 fn m4_the_longest_load() {
     let mut machine = power_up();
     writes(&mut machine, &[(SP_RDLEN, 0xFFFF_FFFF)]);
-    let counts = machine.run(0xFFFF_FFFF, 0, &mut []);
-    assert_eq!((counts.moved, counts.handed), (131_072, 0));
+    let counts = machine.run(0xFFFF_FFFF, 0, 0, &mut []);
+    assert_eq!((counts.moved, counts.consumed), (131_072, 0));
     assert_eq!(reads(&mut machine, SP_RAMADDR), 0x1F_E808);
     assert_eq!(reads(&mut machine, SP_DMA_BUSY), 0);
 }
@@ -134,7 +137,9 @@ fn m9_a_waiting_list() {
     writes(&mut machine, &[(DP_START, 0x2000), (DP_END, 0x2018)]);
     writes(&mut machine, &[(DP_START, 0x3000), (DP_END, 0x3008)]);
     assert_eq!(reads(&mut machine, DP_STATUS), 0x780);
-    dp_turns(&mut machine, 3);
+    for _ in 0..3 {
+        assert_eq!(fetch_and_consume(&mut machine), 0);
+    }
     assert_eq!(reads(&mut machine, DP_CURRENT), 0x3000);
     assert_eq!(reads(&mut machine, DP_STATUS), 0x1A8);
 }
@@ -145,7 +150,8 @@ fn m10_freeze() {
     writes(&mut machine, &[(DP_STATUS, 8), (DP_START, 0x2000)]);
     writes(&mut machine, &[(DP_END, 0x2008)]);
     assert_eq!(reads(&mut machine, DP_STATUS), 0x682);
-    assert_eq!(machine.dp_turn(), None);
+    assert_eq!(machine.dp_turn(), 0);
+    assert_eq!(machine.consumer_turn(), None);
     writes(&mut machine, &[(DP_STATUS, 4)]);
     assert_eq!(reads(&mut machine, DP_STATUS), 0x180);
 }
@@ -155,7 +161,7 @@ fn m11_sync_full_with_top_bits() {
     let mut machine = power_up();
     machine.rdram[0x2000] = 0xE9;
     writes(&mut machine, &[(DP_START, 0x2000), (DP_END, 0x2008)]);
-    assert_eq!(machine.dp_turn(), Some(0xE9 << 56));
+    assert_eq!(fetch_and_consume(&mut machine), 0xE9 << 56);
     assert!(machine.dp.line);
     assert_eq!(reads(&mut machine, DP_STATUS), 0x80);
     machine.acknowledge();
@@ -166,8 +172,11 @@ fn m11_sync_full_with_top_bits() {
 fn m12_flush() {
     let mut machine = power_up();
     writes(&mut machine, &[(DP_START, 0x2000), (DP_END, 0x2018)]);
-    dp_turns(&mut machine, 1);
+    // One fetch and no consumer turn: PIPE_BUSY is on, and FLUSH empties the
+    // queue.
+    assert_eq!(machine.dp_turn(), 1);
     writes(&mut machine, &[(DP_STATUS, 0x20)]);
+    assert!(machine.dp.queue.is_empty());
     assert_eq!(reads(&mut machine, DP_CURRENT), 0x2008);
     assert_eq!(reads(&mut machine, DP_STATUS), 0xAC);
 }
@@ -191,22 +200,25 @@ fn each_word_goes_where_the_formula_says() {
     }
     writes(&mut machine, &[(SP_SPADDR, start), (SP_RAMADDR, base)]);
     writes(&mut machine, &[(SP_RDLEN, skip << 20 | count << 12 | len)]);
-    let counts = machine.run(u32::MAX, 0, &mut []);
+    let counts = machine.run(u32::MAX, 0, 0, &mut []);
     assert_eq!(counts.moved, (count + 1) * words);
     assert!(machine.imem == bank);
     assert!(machine.dmem.iter().all(|byte| *byte == 0));
 }
 
+/// The room ends the consumer, and fetches go on until the queue is full.
 #[test]
 fn a_run_of_the_dp_stops_at_the_room_and_leaves_the_rest() {
     let mut machine = power_up();
-    writes(&mut machine, &[(DP_START, 0), (DP_END, 0x100)]);
+    writes(&mut machine, &[(DP_START, 0), (DP_END, 0x200)]);
     let mut output = [0x55; 23];
-    let counts = machine.run(0, u32::MAX, &mut output);
-    assert_eq!((counts.moved, counts.handed), (0, 2));
+    let counts = machine.run(0, u32::MAX, u32::MAX, &mut output);
+    assert_eq!((counts.moved, counts.fetched, counts.consumed), (0, 34, 2));
     assert!(output[..16].iter().all(|byte| *byte == 0));
     assert!(output[16..].iter().all(|byte| *byte == 0x55));
-    assert_eq!(machine.run(0, u32::MAX, &mut []).handed, 0);
+    assert_eq!(machine.dp.queue.len(), 32);
+    let counts = machine.run(0, u32::MAX, u32::MAX, &mut []);
+    assert_eq!(counts, Counts::default());
 }
 
 /// Runs a program of this package with an input and gives its output.
@@ -487,9 +499,13 @@ fn kinds(recording: &[u8]) -> Vec<u8> {
 fn generated_recordings_replay_to_their_end() {
     for seed in 1..=6 {
         let limit = 2_000 + 1_000 * seed;
-        let arguments = [seed.to_string(), limit.to_string(), "merged".to_string()];
-        let arguments = arguments.each_ref().map(String::as_str);
-        for arguments in [&arguments[..2], &arguments] {
+        let numbers = [seed.to_string(), limit.to_string()];
+        let [seed, bytes] = numbers.each_ref().map(String::as_str);
+        for arguments in [
+            &[seed, bytes][..],
+            &[seed, bytes, "merged"],
+            &[seed, bytes, "queue"],
+        ] {
             let recording = run_program(env!("CARGO_BIN_EXE_generate"), arguments, &[]);
             assert!(recording.len() <= limit && recording.len() + 13 > limit);
             let outcome = replay(&mut power_up(), &recording);
@@ -499,5 +515,30 @@ fn generated_recordings_replay_to_their_end() {
             let merged = arguments.len() == 3;
             assert_eq!(kinds(&recording).contains(&10), merged);
         }
+    }
+}
+
+/// How many records of a recording are done with a word queued.
+fn done_with_words_queued(recording: &[u8]) -> usize {
+    let mut machine = power_up();
+    let (mut place, mut count) = (0, 0);
+    while place < recording.len() {
+        count += usize::from(!machine.dp.queue.is_empty());
+        let (record, after) = record_at(recording, place).expect("a record");
+        apply(&mut machine, record).expect("only good records are made");
+        place = after;
+    }
+    count
+}
+
+/// Words stay queued often where that is asked for.
+#[test]
+fn generated_recordings_leave_words_queued() {
+    for seed in ["1", "2", "52"] {
+        let arguments = [seed, "14000", "queue"];
+        let recording = run_program(env!("CARGO_BIN_EXE_generate"), &arguments, &[]);
+        let records = kinds(&recording).len();
+        let queued = done_with_words_queued(&recording);
+        assert!(10 * queued > records, "{queued} of {records}");
     }
 }

@@ -1,6 +1,6 @@
-//! PIPE_BUSY: every word fetched sets it, a SYNC_FULL then clears it, and
-//! nothing else changes it. STATUS shows it in bits 3 and 5, and its counter
-//! counts while it is on.
+//! PIPE_BUSY: every word fetched sets it, a SYNC_FULL that is consumed clears
+//! it, and nothing else changes it. STATUS shows it in bits 3 and 5, and its
+//! counter counts while it is on.
 
 mod common;
 
@@ -35,16 +35,23 @@ fn expect_status(bench: &mut Bench, others: u32, pipebusy: u8) {
     bench.reads(&[(DP_STATUS, others | both_bits)]);
 }
 
-/// A turn that fetches a word, and what it leaves.
-fn fetches(bench: &mut Bench, others: u32, pipebusy: u8) {
-    assert_eq!(bench.dp_turn().count, 1);
+/// A fetch, which turns it on, then a consumer turn of the same word, and what
+/// that leaves. Nothing is queued before and after them.
+fn takes(bench: &mut Bench, others: u32, pipebusy: u8) {
+    bench.fetches(1);
+    assert_eq!((bench.state.queue.len(), bench.state.dp.pipebusy), (1, 1));
+    assert_eq!(bench.consumer_turn().count, 1);
     expect_status(bench, others, pipebusy);
 }
 
-/// The whole rule: what a word leaves of PIPE_BUSY, whatever it was before.
-fn after_word(wordsleft: u8, first_byte: u8) -> u8 {
+/// The whole rule: what a word that is consumed leaves of PIPE_BUSY.
+fn after_word(pipebusy: u8, wordsleft: u8, first_byte: u8) -> u8 {
     let sync_full = wordsleft == 0 && first_byte % 64 == 0x29;
-    u8::from(!sync_full)
+    if sync_full {
+        0
+    } else {
+        pipebusy
+    }
 }
 
 #[test]
@@ -54,7 +61,7 @@ fn an_empty_list_leaves_it_as_it_was() {
             let mut bench = with_words(pipebusy, &[]);
             bench.writes(&[(DP_START, 0x2000), (DP_END, end)]);
             expect_status(&mut bench, 0x80, pipebusy);
-            assert_eq!(bench.dp_turn(), success(0, 0));
+            assert_eq!(bench.fetch_and_consume(), success(0, 0));
             expect_status(&mut bench, 0x80, pipebusy);
         }
     }
@@ -68,8 +75,8 @@ fn an_end_write_that_starts_a_list_leaves_it_as_it_was() {
         expect_status(&mut bench, 0x480, pipebusy);
         bench.writes(&[(DP_END, 0x2010)]);
         expect_status(&mut bench, 0x180, pipebusy);
-        fetches(&mut bench, 0x180, 1);
-        fetches(&mut bench, 0x80, 1);
+        takes(&mut bench, 0x180, 1);
+        takes(&mut bench, 0x80, 1);
     }
 }
 
@@ -87,7 +94,8 @@ fn a_status_write_that_starts_the_waiting_list_leaves_it_as_it_was() {
     }
 }
 
-/// The waiting list starts in the turn of a word, and the word alone decides.
+/// The waiting list starts in the fetch of a word, which turns it on, and the
+/// word alone decides when it is consumed.
 #[test]
 fn a_turn_that_starts_the_waiting_list_goes_by_its_word() {
     for pipebusy in [0, 1] {
@@ -96,7 +104,7 @@ fn a_turn_that_starts_the_waiting_list_goes_by_its_word() {
                 let mut bench = begun(pipebusy, &[byte]);
                 bench.writes(&[(DP_START, 0x3000), (DP_END, end)]);
                 expect_status(&mut bench, 0x780, pipebusy);
-                fetches(&mut bench, started, after);
+                takes(&mut bench, started, after);
                 bench.reads(&[(DP_CURRENT, 0x3000)]);
                 bench.lines(0, 1 - after);
             }
@@ -126,7 +134,7 @@ fn moving_end_leaves_it_as_it_was() {
             bench.writes(&[(DP_STATUS, 4)]);
             expect_status(&mut bench, others, pipebusy);
         }
-        fetches(&mut bench, 0x180, 1);
+        takes(&mut bench, 0x180, 1);
         bench.writes(&[(DP_END, 0x2008)]);
         expect_status(&mut bench, 0x80, 1);
     }
@@ -153,8 +161,8 @@ fn each_word_of_a_command_sets_it() {
             for left in (0..length).rev() {
                 // It may be off within a command too: such a state is sound.
                 bench.state.dp.pipebusy = pipebusy;
-                let others = if left > 0 { 0x1C0 } else { 0x80 };
-                fetches(&mut bench, others, 1);
+                let others = if left > 0 { 0x180 } else { 0x80 };
+                takes(&mut bench, others, 1);
                 assert_eq!(usize::from(bench.state.dp.wordsleft), left);
             }
             bench.lines(0, 0);
@@ -162,10 +170,25 @@ fn each_word_of_a_command_sets_it() {
     }
 }
 
+/// What a consumed word leaves of the command words left.
+fn left_after_word(wordsleft: u8, first_byte: u8) -> u8 {
+    match (wordsleft, first_byte % 64) {
+        (0, 0x08) => 3,
+        (0, 0x09) => 5,
+        (0, 0x0A | 0x0C) => 11,
+        (0, 0x0B | 0x0D) => 13,
+        (0, 0x0E) => 19,
+        (0, 0x0F) => 21,
+        (0, 0x24 | 0x25) => 1,
+        _ => wordsleft.saturating_sub(1),
+    }
+}
+
 /// Every first byte as the first word of a command, and with every number of
-/// words left. Nothing of the state but what the rules name is changed.
+/// words left. Nothing of the state but what the rules name is changed: the
+/// fetch frames nothing, and no consumed word turns it on.
 #[test]
-fn every_first_byte_sets_it_but_for_a_sync_full() {
+fn every_first_byte_leaves_it_but_for_a_sync_full() {
     let mut bench = Bench::new();
     for (wordsleft, byte) in (0..=21).flat_map(|left| (0..=255).map(move |byte| (left, byte))) {
         for pipebusy in [0, 1] {
@@ -175,21 +198,21 @@ fn every_first_byte_sets_it_but_for_a_sync_full() {
             bench.state.dp.limit = 0x2010;
             bench.state.dp.wordsleft = wordsleft;
             bench.state.dp.pipebusy = pipebusy;
-            let mut after = bench.state;
-            assert_eq!(bench.dp_turn(), success(u64::from(byte) << 56, 1));
+            let mut after = bench.state.clone();
+            let word = u64::from(byte) << 56;
+            bench.fetches(1);
             after.dp.current = 0x2008;
-            after.dp.pipebusy = after_word(wordsleft, byte);
-            after.dp.line = 1 - after.dp.pipebusy;
-            after.dp.wordsleft = match (wordsleft, byte % 64) {
-                (0, 0x08) => 3,
-                (0, 0x09) => 5,
-                (0, 0x0A | 0x0C) => 11,
-                (0, 0x0B | 0x0D) => 13,
-                (0, 0x0E) => 19,
-                (0, 0x0F) => 21,
-                (0, 0x24 | 0x25) => 1,
-                _ => wordsleft.saturating_sub(1),
-            };
+            after.dp.pipebusy = 1;
+            after.queue = vec![word];
+            assert_eq!(bench.state, after, "{wordsleft} {byte:02X} {pipebusy}");
+
+            // A state with words queued and PIPE_BUSY off is sound, too.
+            bench.state.dp.pipebusy = pipebusy;
+            assert_eq!(bench.consumer_turn(), success(word, 1));
+            after.queue.clear();
+            after.dp.pipebusy = after_word(pipebusy, wordsleft, byte);
+            after.dp.line = u8::from(wordsleft == 0 && byte % 64 == 0x29);
+            after.dp.wordsleft = left_after_word(wordsleft, byte);
             assert_eq!(bench.state, after, "{wordsleft} {byte:02X} {pipebusy}");
         }
     }
@@ -205,16 +228,16 @@ fn a_word_after_sync_full_sets_it_again() {
         bench.rdram[0x2030] = 0x29;
         bench.rdram[0x2038] = 0x69;
         for after in [1, 0, 1, 0, 0] {
-            fetches(&mut bench, 0x180, after);
+            takes(&mut bench, 0x180, after);
         }
-        fetches(&mut bench, 0xC0, 1);
+        takes(&mut bench, 0x80, 1);
         bench.writes(&[(DP_END, 0x2040)]);
-        expect_status(&mut bench, 0x1C0, 1);
-        fetches(&mut bench, 0x180, 1);
-        fetches(&mut bench, 0x80, 0);
+        expect_status(&mut bench, 0x180, 1);
+        takes(&mut bench, 0x180, 1);
+        takes(&mut bench, 0x80, 0);
         bench.writes(&[(DP_END, 0x2048)]);
         expect_status(&mut bench, 0x180, 0);
-        fetches(&mut bench, 0x80, 1);
+        takes(&mut bench, 0x80, 1);
     }
 }
 
@@ -226,10 +249,10 @@ fn sync_full_clears_it_though_a_list_waits() {
         bench.writes(&[(DP_START, 0x3000), (DP_END, 0x3008)]);
         expect_status(&mut bench, 0x780, pipebusy);
         for after in [0, 1, 0] {
-            fetches(&mut bench, 0x780, after);
+            takes(&mut bench, 0x780, after);
         }
-        fetches(&mut bench, 0x180, 1);
-        fetches(&mut bench, 0x80, 1);
+        takes(&mut bench, 0x180, 1);
+        takes(&mut bench, 0x80, 1);
         bench.lines(0, 1);
     }
 }
@@ -245,17 +268,17 @@ fn words_from_dmem_and_past_the_lent_length_set_it() {
     bench.rdram[0x6000] = 0x27;
     bench.writes(&[(DP_STATUS, 2), (DP_START, 0x5FF8), (DP_END, 0x6008)]);
     expect_status(&mut bench, 0x181, 0);
-    fetches(&mut bench, 0x181, 1);
-    fetches(&mut bench, 0x81, 0);
+    takes(&mut bench, 0x181, 1);
+    takes(&mut bench, 0x81, 0);
 
     bench.rdram[0xFFF8] = 0x29;
     bench.rdram[0] = 0x29;
     bench.writes(&[(DP_STATUS, 1), (DP_START, 0xFFF8), (DP_END, 0x1_0010)]);
-    fetches(&mut bench, 0x180, 0);
-    fetches(&mut bench, 0x180, 1);
+    takes(&mut bench, 0x180, 0);
+    takes(&mut bench, 0x180, 1);
     bench.state.dp.pipebusy = 0;
     bench.state.dp.wordsleft = 2;
-    fetches(&mut bench, 0xC0, 1);
+    takes(&mut bench, 0x80, 1);
 }
 
 #[test]
@@ -277,6 +300,7 @@ fn a_turn_that_fetches_nothing_leaves_it_as_it_was() {
             bench.state.dp.wordsleft = wordsleft;
             let before = bench.clone();
             assert_eq!(bench.dp_turn(), success(0, 0));
+            assert_eq!(bench.consumer_turn(), success(0, 0));
             assert!(bench == before);
             assert_eq!(bench.run_dp(u32::MAX, &mut [0; 64]), 0);
             assert!(bench == before);
@@ -284,9 +308,11 @@ fn a_turn_that_fetches_nothing_leaves_it_as_it_was() {
     }
 }
 
-/// A run ends by its budget or by the room, and its last word decides.
+/// A run that its budget ends fetches and consumes word by word, and its last
+/// word decides. Where the room ends the consumer, the fetches that go on turn
+/// it on again.
 #[test]
-fn a_run_leaves_what_its_last_word_left() {
+fn a_run_leaves_what_its_last_turn_left() {
     let bytes = [0x27, 0x29, 0x27, 0x24, 0x29, 0xE9];
     for pipebusy in [0, 1] {
         let after = [pipebusy, 1, 0, 1, 1, 1, 0];
@@ -298,6 +324,7 @@ fn a_run_leaves_what_its_last_word_left() {
             assert_eq!(bench.state.dp.pipebusy, after, "{words}");
             let mut room = vec![0; 8 * words + 7];
             assert_eq!(cramped.run_dp(u32::MAX, &mut room), count);
+            let after = u8::from(words < 6);
             assert_eq!(cramped.state.dp.pipebusy, after, "{words}");
         }
     }
@@ -350,7 +377,7 @@ fn a_status_write_leaves_it_as_it_was() {
 fn an_acknowledge_leaves_it_as_it_was() {
     let mut bench = begun(0, &[0x29, 0x27]);
     for after in [0, 1] {
-        assert_eq!(bench.dp_turn().count, 1);
+        assert_eq!(bench.fetch_and_consume().count, 1);
         bench.lines(0, 1);
         let outcome = acknowledge(&bench.state);
         assert_eq!(outcome.answer, success(0, 0));
@@ -377,18 +404,18 @@ fn the_counter_counts_from_the_first_word_until_sync_full() {
     ticks(&mut bench, 0x04, 0);
     // A word; the first and the second of a command, which is no SYNC_FULL.
     for (n, counted) in [(0x08, 0x08), (0x10, 0x18), (0x20, 0x38)] {
-        assert_eq!(bench.dp_turn().count, 1);
+        assert_eq!(bench.fetch_and_consume().count, 1);
         ticks(&mut bench, n, counted);
     }
     bench.writes(&[(DP_STATUS, 8)]);
-    assert_eq!(bench.dp_turn().count, 0);
+    assert_eq!(bench.fetch_and_consume(), success(0, 0));
     ticks(&mut bench, 0x40, 0x78);
     bench.writes(&[(DP_STATUS, 4)]);
-    assert_eq!(bench.dp_turn(), success(0x29 << 56, 1));
+    assert_eq!(bench.fetch_and_consume(), success(0x29 << 56, 1));
     ticks(&mut bench, 0x80, 0x78);
     bench.writes(&[(DP_END, 0x2028)]);
     ticks(&mut bench, 0x100, 0x78);
-    assert_eq!(bench.dp_turn(), success(0x27 << 56, 1));
+    assert_eq!(bench.fetch_and_consume(), success(0x27 << 56, 1));
     ticks(&mut bench, 0x200, 0x278);
     bench.writes(&[(DP_STATUS, 0x20)]);
     ticks(&mut bench, 0x400, 0x678);
@@ -460,7 +487,7 @@ fn a_declined_turn_leaves_it_as_it_was() {
 
 /// Any sound state and any call. Half of the words begin like a SYNC_FULL.
 #[test]
-fn only_a_fetched_word_changes_it() {
+fn only_a_fetch_and_a_consumed_sync_full_change_it() {
     let mut random = Random(0x0F1E_2D3C_4B5A_6979);
     let mut bench = Bench::running();
     for _ in 0..4_000 {
@@ -476,27 +503,42 @@ fn only_a_fetched_word_changes_it() {
             assert_eq!(outcome.answer.number, 0);
             assert_eq!(outcome.state.dp.pipebusy, state.dp.pipebusy);
         }
-        bench.state = state;
+        let pipebusy = state.dp.pipebusy;
+        bench.state = state.clone();
         assert_eq!(bench.run_sp(value % 64).number, 0);
-        assert_eq!(bench.state.dp.pipebusy, state.dp.pipebusy);
+        assert_eq!(bench.state.dp.pipebusy, pipebusy);
+
+        bench.state = state.clone();
+        plant(&mut bench, value);
+        let fetched = bench.dp_turn().count == 1;
+        let expected = if fetched { 1 } else { pipebusy };
+        assert_eq!(bench.state.dp.pipebusy, expected);
 
         bench.state = state;
         plant(&mut bench, value);
-        let turn = bench.dp_turn();
+        let wordsleft = bench.state.dp.wordsleft;
+        let turn = bench.consumer_turn();
         let expected = match turn.count {
-            1 => after_word(state.dp.wordsleft, (turn.value >> 56) as u8),
-            _ => state.dp.pipebusy,
+            1 => after_word(pipebusy, wordsleft, (turn.value >> 56) as u8),
+            _ => pipebusy,
         };
         assert_eq!(bench.state.dp.pipebusy, expected);
     }
 }
 
-/// Puts the first byte of a SYNC_FULL where the next word stands, for one
-/// value in two.
+/// Puts the first byte of a SYNC_FULL where the next word to fetch stands and
+/// into the oldest word queued, for one value in two.
 fn plant(bench: &mut Bench, value: u32) {
+    if value & 2 != 0 {
+        return;
+    }
+    let byte = value as u8 & 0xC0 | 0x29;
     let look = bench.look();
-    if look.length == 8 && value & 2 == 0 {
+    if look.length == 8 {
         let memories = [&mut bench.rdram, &mut bench.dmem];
-        memories[look.memory as usize][look.offset as usize] = value as u8 & 0xC0 | 0x29;
+        memories[look.memory as usize][look.offset as usize] = byte;
+    }
+    if let Some(oldest) = bench.state.queue.first_mut() {
+        *oldest = *oldest << 8 >> 8 | u64::from(byte) << 56;
     }
 }

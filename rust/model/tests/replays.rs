@@ -375,7 +375,8 @@ fn a_store_past_the_lent_length_is_dropped() {
     assert!(bench == before);
 }
 
-/// Each run of a replay has 2,048 bytes of output of its own.
+/// Each run of a replay has 2,048 bytes of output of its own. The list has 600
+/// words: 256, 256 and 88.
 #[test]
 fn each_run_has_its_own_output() {
     let mut bench = Bench::new();
@@ -410,7 +411,7 @@ fn memory(bench: &mut Bench, address: u32) -> Option<&mut [u8]> {
 
 /// Does one record by the single calls and gives its line.
 fn by_single_calls(bench: &mut Bench, reading: Reading) -> String {
-    let state = bench.state;
+    let state = bench.state.clone();
     let Reading { address, value, .. } = reading;
     let number = value as u32;
     match reading.kind {
@@ -424,7 +425,7 @@ fn by_single_calls(bench: &mut Bench, reading: Reading) -> String {
         4 => return format!("D {:08X}\n", bench.run_dp(number, &mut [0; 2_048])),
         10 => {
             let upper = (value >> 32) as u32;
-            let (answer, words) = bench.run(upper, number, &mut [0; 2_048]);
+            let (answer, words) = bench.run([upper, number, number], &mut [0; 2_048]);
             return format!("S {:08X}\nD {words:08X}\n", answer.count);
         }
         5 => bench.took(tick(&state, number), success(0, 0)),
@@ -449,7 +450,7 @@ fn a_replay_is_its_records() {
     for seed in 1..=4 {
         let program = env!("CARGO_BIN_EXE_generate");
         let made = Command::new(program)
-            .args([&seed.to_string(), "9000", "merged"])
+            .args([&seed.to_string(), "9000", "queue"])
             .output();
         let recording = made.expect("the program runs").stdout;
         assert!(recording.len() > 8_900);

@@ -7,9 +7,10 @@
 //! let mut rdram = vec![0; 32768];
 //! let (mut dmem, mut imem) = ([0; 4096], [0; 4096]);
 //! let mut out = [0; 64];
-//! // RDLEN 0x0F loads two words; the run moves them. There is no list, so the DP hands out no word.
+//! // RDLEN 0x0F loads two words; the run moves them. There is no list, so no word is fetched or consumed.
 //! let started = ofersky::write_register(ofersky::power_up(), 0x0404_0008, 0x0F);
-//! let ran = ofersky::run(started.state, 100, 100, &mut rdram, &mut dmem, &mut imem, &mut out);
+//! let state = started.state;
+//! let ran = ofersky::run(state, 100, 100, 100, &mut rdram, &mut dmem, &mut imem, &mut out);
 //! let answer = ran.outcome.answer;
 //! assert_eq!((answer.number, answer.count, ran.words), (0, 2, 0));
 //! ```
@@ -71,19 +72,42 @@ pub struct DpState {
     pub xbus: u8,
     pub freeze: u8,
     pub flush: u8,
+    /// Every word fetched turns it on; a SYNC_FULL that is consumed turns it off.
     pub pipebusy: u8,
-    /// No flag: the words left of the command that is being fetched.
+    /// No flag: the words left of the command that is being consumed.
     pub wordsleft: u8,
     /// The DP interrupt line.
     pub line: u8,
+    /// No flag: how many words are queued, at most [`QUEUE_WORDS`].
+    pub queued: u8,
+    /// No flag: the slot of the oldest queued word.
+    pub head: u8,
 }
 
-/// Both engines.
+/// As many words fit into the queue.
+pub const QUEUE_WORDS: usize = 32;
+
+/// Both engines, and the words that were fetched and not yet consumed.
+///
+/// `queue` is a ring: the oldest word stands in slot `dp.head`, the next one in the slot after it, and slot 0 comes after
+/// the last. A fetch puts its word behind the last one, and a consumer turn moves `dp.head` on by one slot.
+/// [`State::queued_words`] gives them in order. `dp.head` and the slots without a queued word are representation: no answer
+/// depends on them, but `==` sees them.
 #[repr(C)]
 #[derive(Clone, Copy, Debug, Default, PartialEq, Eq)]
 pub struct State {
     pub sp: SpState,
     pub dp: DpState,
+    pub queue: [u64; QUEUE_WORDS],
+}
+
+impl State {
+    /// The queued words, the oldest first. Of a state that is not sound they are at most [`QUEUE_WORDS`], too.
+    pub fn queued_words(&self) -> impl Iterator<Item = u64> + '_ {
+        let from = usize::from(self.dp.head);
+        let queued = usize::from(self.dp.queued).min(QUEUE_WORDS);
+        (from..from + queued).map(|slot| self.queue[slot % QUEUE_WORDS])
+    }
 }
 
 /// What a call gives back beside the state: 0 or the number of the refusal, a value and a count.
@@ -103,13 +127,13 @@ pub struct Outcome {
     pub answer: Answer,
 }
 
-/// What a run gives: the outcome, whose count is the SP's, and the DP's count.
+/// What a run gives: the outcome, whose count is the SP's, and the consumer's count.
 #[repr(C)]
 #[derive(Clone, Copy, Debug, Default, PartialEq, Eq)]
 pub struct Ran {
     /// Its count is the number of words that the SP moved.
     pub outcome: Outcome,
-    /// How many words the DP handed out; they stand in the output, from its start on.
+    /// How many words were consumed; they stand in the output, from its start on.
     pub words: u32,
 }
 
@@ -123,7 +147,7 @@ pub struct Part {
 }
 
 /// A record. `value` is the second field of kinds 1, 2, 8 and 9, and the only one of kinds 3, 4 and 5; of kind 10 its upper half
-/// is the SP's budget and its lower half the DP's.
+/// is the SP's budget and its lower half that of the DP and of the consumer.
 /// A field that a kind does not have is 0 in a record that is read, and plays no part in one that is written.
 #[repr(C)]
 #[derive(Clone, Copy, Debug, Default, PartialEq, Eq)]
@@ -209,12 +233,13 @@ pub fn is_sound(state: State) -> bool {
     unsafe { raw::ofersky_is_sound(state) }
 }
 
-/// Reads a register, by its address or a mirror of it. Refusals: 4, 10, 5.
+/// Reads a register, by its address or a mirror of it. Bit 6 of DP STATUS says that a word is queued. Refusals: 4, 10, 5.
 pub fn read_register(state: State, address: u32) -> Outcome {
     unsafe { raw::ofersky_read_register(state, address) }
 }
 
-/// Writes a register, by its address or a mirror of it. Refusals: 4, 10, 5.
+/// Writes a register, by its address or a mirror of it. A write to DP STATUS that sets FLUSH empties the queue, also where
+/// it is on already. Refusals: 4, 10, 5.
 ///
 /// ```
 /// let refusal = |address| ofersky::write_register(ofersky::power_up(), address, 0).answer.number;
@@ -227,7 +252,8 @@ pub fn write_register(state: State, address: u32, value: u32) -> Outcome {
     unsafe { raw::ofersky_write_register(state, address, value) }
 }
 
-/// Adds to the clock and the busy counters. Refusal: 4.
+/// Adds to the clock; to the CMD_BUSY counter if a word is queued; and to the PIPE_BUSY counter if that flag is on.
+/// Refusal: 4.
 pub fn tick(state: State, n: u32) -> Outcome {
     unsafe { raw::ofersky_tick(state, n) }
 }
@@ -248,15 +274,40 @@ pub fn sp_turn(state: State, rdram: &mut [u8], dmem: &mut [u8], imem: &mut [u8])
     unsafe { raw::ofersky_sp_turn(state, r.0, r.1, d.0, d.1, i.0, i.1) }
 }
 
-/// One DP turn; its value is the word fetched. Refusals: 1, 2, 4.
+/// One DP turn: fetches the word at CURRENT into the queue, if a list runs, FREEZE is off and fewer than 32 words are queued.
+/// The value is 0, the count 1 if it fetched. Refusals: 1, 2, 4.
 pub fn dp_turn(state: State, rdram: &[u8], dmem: &[u8]) -> Outcome {
     let [r, d] = [rdram, dmem].map(shared);
     unsafe { raw::ofersky_dp_turn(state, r.0, r.1, d.0, d.1) }
 }
 
-/// SP turn, DP turn, SP turn and so on, each engine until its budget is used or a turn of it would do nothing, and the DP
-/// also until `out` has no room for a word. Where both engines are at work on the same bytes, this order decides.
-/// Refusals: 1, 2, 3, 4.
+/// One consumer turn: takes the oldest word from the queue, if there is one and FREEZE is off. The value is the word, the
+/// count 1; otherwise both are 0. Here the word counts for its command, and a SYNC_FULL turns PIPE_BUSY off and raises the
+/// DP line. Refusal: 4.
+///
+/// ```
+/// // A list of one word, which begins a SYNC_FULL.
+/// let (rdram, dmem) = ([0x29, 0, 0, 0, 0, 0, 0, 7], [0; 4096]);
+/// let started = ofersky::write_register(ofersky::power_up(), 0x0410_0004, 8).state;
+/// let fetched = ofersky::dp_turn(started, &rdram, &dmem);
+/// assert_eq!((fetched.answer.value, fetched.answer.count), (0, 1));
+/// assert!(fetched.state.queued_words().eq([0x2900_0000_0000_0007]));
+/// // PIPE_BUSY (bits 3 and 5) and a queued word (bit 6).
+/// assert_eq!(ofersky::read_register(fetched.state, 0x0410_000C).answer.value, 0xE8);
+/// let consumed = ofersky::consumer_turn(fetched.state);
+/// assert_eq!((consumed.answer.value, consumed.answer.count), (0x2900_0000_0000_0007, 1));
+/// assert_eq!((consumed.state.dp.pipebusy, consumed.state.dp.line), (0, 1));
+/// // The queue is empty.
+/// assert_eq!(ofersky::consumer_turn(consumed.state).answer.count, 0);
+/// ```
+pub fn consumer_turn(state: State) -> Outcome {
+    unsafe { raw::ofersky_consumer_turn(state) }
+}
+
+/// Rounds of SP turn, DP turn and consumer turn, each until its budget is used or it would do nothing, and the consumer's also
+/// until `out` has no room for a word. The run ends when none of the three would act: without room the DP still fetches
+/// until the queue is full, and the next run begins with those words. Where the SP writes bytes that are yet to be fetched,
+/// this order decides. Refusals: 1, 2, 3, 4.
 ///
 /// ```
 /// let (mut rdram, mut dmem, mut imem) = ([0; 64], [1; 4096], [0; 4096]);
@@ -266,15 +317,17 @@ pub fn dp_turn(state: State, rdram: &[u8], dmem: &[u8]) -> Outcome {
 /// for (address, value) in [(0x0404_000C, 0x0F), (0x0410_0000, 8), (0x0410_0004, 24)] {
 ///     state = ofersky::write_register(state, address, value).state;
 /// }
-/// let ran = ofersky::run(state, 100, 100, &mut rdram, &mut dmem, &mut imem, &mut out);
+/// let ran = ofersky::run(state, 100, 100, 100, &mut rdram, &mut dmem, &mut imem, &mut out);
 /// assert_eq!((ran.outcome.answer.count, ran.words), (2, 2));
 /// // The word at 8 is fetched before the SP's second turn stores it.
 /// assert_eq!((rdram[8], out), (1, [0; 16]));
 /// ```
+#[allow(clippy::too_many_arguments)]
 pub fn run(
     state: State,
     sp_budget: u32,
     dp_budget: u32,
+    consumer_budget: u32,
     rdram: &mut [u8],
     dmem: &mut [u8],
     imem: &mut [u8],
@@ -283,12 +336,23 @@ pub fn run(
     let [r, d, i, o] = [rdram, dmem, imem, out].map(lent);
     unsafe {
         raw::ofersky_run(
-            state, sp_budget, dp_budget, r.0, r.1, d.0, d.1, i.0, i.1, o.0, o.1,
+            state,
+            sp_budget,
+            dp_budget,
+            consumer_budget,
+            r.0,
+            r.1,
+            d.0,
+            d.1,
+            i.0,
+            i.1,
+            o.0,
+            o.1,
         )
     }
 }
 
-/// Where the eight bytes stand that the next DP turn would hand out, or an empty part.
+/// Where the word at CURRENT stands, which the next fetch takes, also while the queue is full; or an empty part.
 pub fn look_ahead(state: State, rdram: &[u8], dmem: &[u8]) -> Part {
     let [r, d] = [rdram, dmem].map(shared);
     unsafe { raw::ofersky_look_ahead(state, r.0, r.1, d.0, d.1) }
@@ -316,7 +380,7 @@ pub fn read_record(recording: &[u8], place: usize) -> Reading {
 /// use ofersky::{read_record, write_record, Record};
 ///
 /// let load = Record { kind: 1, address: 0x0404_0008, value: 0x0F };
-/// // The SP's budget is 100, and the DP's 20.
+/// // The SP's budget is 100, and that of the DP and of the consumer 20.
 /// let run = Record { kind: 10, address: 0, value: 100 << 32 | 20 };
 /// let mut buffer = [0; 18];
 /// let after = write_record(load, &mut buffer, 0).value as usize;
@@ -333,7 +397,9 @@ pub fn write_record(item: Record, buffer: &mut [u8], place: usize) -> Answer {
 }
 
 /// Replays a recording and writes its listing to `out`. It stops at a record that is refused, and what the records before
-/// it did stays done. Refusals: 9, 1, 2, 3, 4, and those of its records: 7, 8, 10, 5, 6.
+/// it did stays done. A record of kind 3 is a run with the budgets b, 0, 0; of kind 4 with 0, b, b; of kind 10 with a, b, b.
+/// Each has room for 256 words; words that are still queued then wait for the next run. Refusals: 9, 1, 2, 3, 4, and those
+/// of its records: 7, 8, 10, 5, 6.
 ///
 /// ```
 /// let (mut rdram, mut dmem, mut imem) = ([0; 64], [0; 4096], [0; 4096]);

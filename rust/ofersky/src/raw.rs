@@ -26,10 +26,12 @@ extern "C" {
         dmem: *const u8,
         dmem_bytes: usize,
     ) -> Outcome;
+    pub fn ofersky_consumer_turn(s: State) -> Outcome;
     pub fn ofersky_run(
         s: State,
         sp_budget: u32,
         dp_budget: u32,
+        consumer_budget: u32,
         rdram: *mut u8,
         rdram_bytes: usize,
         dmem: *mut u8,

@@ -11,8 +11,11 @@ abbrev μ-loop : tie.MeasureT-loop
 loop-holds : tie.Need-loop-holds Inv-loop μ-loop
 loop-holds c = search needs
 
-dp-turn-requires : tie.Need-dp-turn-requires Inv-loop μ-loop
-dp-turn-requires c κs = search needs
+fetch-requires : tie.Need-fetch-requires Inv-loop μ-loop
+fetch-requires c κs = search needs
+
+consumer-turn-requires : tie.Need-consumer-turn-requires Inv-loop μ-loop
+consumer-turn-requires c κs = search needs
 
 after-requires : tie.Need-after-requires Inv-loop μ-loop
 after-requires c κs = search needs
@@ -36,7 +39,8 @@ dp-turns-spec =
     Inv-loop
     μ-loop
     loop-holds
-    dp-turn-requires
+    fetch-requires
+    consumer-turn-requires
     after-requires
     sub-left
     loop-less

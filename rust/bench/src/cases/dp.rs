@@ -1,12 +1,13 @@
-//! Runs of the DP over whole lists.
+//! Runs that fetch and consume whole lists.
 
+#[cfg(before)]
+use super::Earlier;
 use super::{run, Words, DP_STATUS, END, RDRAM, START};
-use crate::buffers::{written, Buffers};
-use crate::plain::dp::LENGTHS;
-use crate::plain::{Machine, Ran};
+use crate::buffers::{Buffers, Start};
+use crate::plain::dp::{Rest, LENGTHS};
+use crate::plain::Ran;
 use crate::random::Random;
 use crate::timing::Line;
-use ofersky::State;
 use std::hint::black_box;
 
 /// Where lists stand in RDRAM.
@@ -53,23 +54,18 @@ pub fn fill_list(bytes: &mut [u8], commands: Commands) {
 
 /// A list that is about to run.
 struct List {
-    start: usize,
-    machine: Machine,
-    state: State,
+    at: usize,
+    start: Start,
 }
 
 impl List {
-    fn new(start: usize, words: usize, xbus: bool) -> List {
-        let (machine, state) = written(&[
+    fn new(at: usize, words: usize, xbus: bool) -> List {
+        let start = Start::written(&[
             (DP_STATUS, if xbus { 2 } else { 1 }),
-            (START, start as u32),
-            (END, (start + 8 * words) as u32),
+            (START, at as u32),
+            (END, (at + 8 * words) as u32),
         ]);
-        List {
-            start,
-            machine,
-            state,
-        }
+        List { at, start }
     }
 }
 
@@ -84,11 +80,11 @@ struct Lists {
 impl Lists {
     fn one(words: usize, commands: Commands, xbus: bool) -> Lists {
         let memory = if xbus { "DMEM" } else { "RDRAM" };
-        let start = if xbus { 0 } else { LIST };
+        let at = if xbus { 0 } else { LIST };
         Lists {
-            name: format!("DP list in {memory}, {}", commands.name()),
+            name: format!("list in {memory}, {}", commands.name()),
             words,
-            lists: vec![List::new(start, words, xbus)],
+            lists: vec![List::new(at, words, xbus)],
             xbus,
         }
     }
@@ -97,27 +93,11 @@ impl Lists {
     fn many(words: usize, commands: Commands) -> Lists {
         let starts = (0..SIZES[4]).step_by(words).map(|at| LIST + 8 * at);
         Lists {
-            name: format!("DP lists of {words}, {}", commands.name()),
+            name: format!("lists of {words}, {}", commands.name()),
             words,
             lists: starts.map(|at| List::new(at, words, false)).collect(),
             xbus: false,
         }
-    }
-
-    /// By the call of a library.
-    fn called(
-        &self,
-        run: impl Fn(State, &mut Buffers) -> ofersky::Ran,
-        b: &mut Buffers,
-    ) -> ofersky::Ran {
-        let mut done = ofersky::Ran::default();
-        let mut words = 0;
-        for list in &self.lists {
-            done = run(list.state, b);
-            words += done.words;
-        }
-        done.words = words;
-        done
     }
 }
 
@@ -133,20 +113,23 @@ impl Words for Lists {
     }
 
     fn ours(&self, b: &mut Buffers) -> ofersky::Ran {
-        self.called(|state, b| run(state, [0, u32::MAX], b), b)
-    }
-
-    #[cfg(before)]
-    fn before(&self, b: &mut Buffers) -> ofersky::Ran {
-        self.called(|state, b| crate::before::dp_run(state, u32::MAX, b), b)
+        let mut done = ofersky::Ran::default();
+        let mut words = 0;
+        for list in &self.lists {
+            done = run(list.start.state, [0, u32::MAX, u32::MAX], b);
+            words += done.words;
+        }
+        done.words = words;
+        done
     }
 
     fn plain(&self, b: &mut Buffers) -> Ran {
         let mut ran = Ran::default();
         for list in &self.lists {
-            let budget;
-            (ran.machine, budget) = black_box((list.machine, u32::MAX));
-            ran.words += ran.machine.dp.run(budget, &b.rdram, &b.dmem, &mut b.out);
+            let budgets;
+            (ran.machine, budgets) = black_box((list.start.machine, [u32::MAX; 2]));
+            let (machine, rest) = (&mut ran.machine, Rest::new(budgets, &mut b.out));
+            ran.words += machine.dp.run(&mut machine.queue, rest, &b.rdram, &b.dmem);
         }
         ran
     }
@@ -154,9 +137,28 @@ impl Words for Lists {
     fn copy(&self, b: &mut Buffers) {
         let memory = if self.xbus { &b.dmem[..] } else { &b.rdram };
         for list in &self.lists {
-            let words = &memory[list.start..][..8 * self.words];
+            let words = &memory[list.at..][..8 * self.words];
             b.out[..words.len()].copy_from_slice(words);
         }
+    }
+
+    fn aim(&self) -> Option<(&'static str, f64)> {
+        Some(("Fetch and consume", 3.0))
+    }
+}
+
+#[cfg(before)]
+impl Earlier for Lists {
+    fn before(&self, b: &mut Buffers) -> crate::before::Ran {
+        let mut words = 0;
+        let mut last = None;
+        for list in &self.lists {
+            let done = crate::before::run(list.start.earlier, [0, u32::MAX], b);
+            words += done.words;
+            last = Some(done);
+        }
+        let done = last.expect("a list");
+        crate::before::Ran { words, ..done }
     }
 }
 

@@ -1,7 +1,8 @@
 //! What is timed.
 
-mod both;
+mod all_three;
 mod dp;
+mod registers;
 mod replays;
 mod sp;
 mod turns;
@@ -29,22 +30,24 @@ const DP_STATUS: u32 = 0x0410_000C;
 pub fn all(show: &mut dyn FnMut(Line)) {
     sp::all(show);
     dp::all(show);
-    both::all(show);
+    all_three::all(show);
     turns::all(show);
+    registers::all(show);
     replays::all(show);
     writing::all(show);
 }
 
-/// The lines of runs and of DP turns, beside an earlier library.
+/// The lines of runs, turns and registers, beside an earlier library.
 #[cfg(before)]
 pub fn before_and_after(show: &mut dyn FnMut(Line)) {
     sp::before_and_after(show);
     dp::before_and_after(show);
-    both::before_and_after(show);
+    all_three::before_and_after(show);
     turns::before_and_after(show);
+    registers::before_and_after(show);
 }
 
-/// Words that the engines move or hand out, in every way that is timed.
+/// Words that are moved, fetched or consumed, in every way that is timed.
 trait Words {
     /// What a call of the library gives.
     type Given: Into<Left>;
@@ -52,30 +55,42 @@ trait Words {
     fn name(&self) -> &str;
     fn words(&self) -> usize;
     fn ours(&self, buffers: &mut Buffers) -> Self::Given;
-    /// By the calls of an earlier library.
-    #[cfg(before)]
-    fn before(&self, buffers: &mut Buffers) -> Self::Given;
     fn plain(&self, buffers: &mut Buffers) -> Ran;
     fn copy(&self, buffers: &mut Buffers);
 
+    /// What ours may take of plain Rust, if that is said.
+    fn aim(&self) -> Option<(&'static str, f64)> {
+        None
+    }
+
     fn beside_plain(&self, buffers: &mut Buffers) -> Line {
-        measure(
+        let line = measure(
             self.name(),
             self.words(),
             buffers,
             |b| self.ours(b),
             |b| self.plain(b),
             |b| self.copy(b),
-        )
+        );
+        Line {
+            aim: self.aim(),
+            ..line
+        }
     }
+}
 
-    #[cfg(before)]
+/// What an earlier library can do, too.
+#[cfg(before)]
+trait Earlier: Words {
+    /// By its calls.
+    fn before(&self, buffers: &mut Buffers) -> crate::before::Ran;
+
     fn beside_before(&self, buffers: &mut Buffers) -> Line {
         measure(
             self.name(),
             self.words(),
             buffers,
-            |b| self.ours(b),
+            |b| crate::buffers::Drained(self.ours(b)),
             |b| self.before(b),
             |b| self.plain(b),
         )
@@ -83,8 +98,9 @@ trait Words {
 }
 
 /// The run of the library over these buffers, as the processor cannot foresee it.
-fn run(state: State, budgets: [u32; 2], b: &mut Buffers) -> ofersky::Ran {
-    let (state, [sp, dp]) = black_box((state, budgets));
+fn run(state: State, budgets: [u32; 3], b: &mut Buffers) -> ofersky::Ran {
+    let (state, [sp, dp, consumer]) = black_box((state, budgets));
     let (dmem, imem) = (&mut b.dmem[..], &mut b.imem[..]);
-    ofersky::run(state, sp, dp, &mut b.rdram, dmem, imem, &mut b.out)
+    let rdram = &mut b.rdram;
+    ofersky::run(state, sp, dp, consumer, rdram, dmem, imem, &mut b.out)
 }

@@ -1,10 +1,11 @@
 //! Runs of the SP over whole transfers.
 
+#[cfg(before)]
+use super::Earlier;
 use super::{run, Words, RAMADDR, RDLEN, RDRAM, SPADDR, WRLEN};
-use crate::buffers::{written, Buffers};
-use crate::plain::{Machine, Ran};
+use crate::buffers::{Buffers, Start};
+use crate::plain::Ran;
 use crate::timing::Line;
-use ofersky::State;
 use std::hint::black_box;
 
 /// Where transfers begin in RDRAM.
@@ -68,19 +69,16 @@ struct Transfer {
     name: String,
     shape: Shape,
     storing: bool,
-    machine: Machine,
-    state: State,
+    start: Start,
 }
 
 impl Transfer {
     fn new(shape: Shape, storing: bool) -> Transfer {
-        let (machine, state) = written(&shape.writes(storing));
         Transfer {
             name: name(shape, storing),
             shape,
             storing,
-            machine,
-            state,
+            start: Start::written(&shape.writes(storing)),
         }
     }
 }
@@ -104,16 +102,11 @@ impl Words for Transfer {
     }
 
     fn ours(&self, b: &mut Buffers) -> ofersky::Ran {
-        run(self.state, [u32::MAX, 0], b)
-    }
-
-    #[cfg(before)]
-    fn before(&self, b: &mut Buffers) -> ofersky::Ran {
-        crate::before::sp_run(self.state, u32::MAX, b)
+        run(self.start.state, [u32::MAX, 0, 0], b)
     }
 
     fn plain(&self, b: &mut Buffers) -> Ran {
-        let (mut machine, budget) = black_box((self.machine, u32::MAX));
+        let (mut machine, budget) = black_box((self.start.machine, u32::MAX));
         let (dmem, imem) = (&mut b.dmem, &mut b.imem);
         let count = machine.sp.run(budget, &mut b.rdram, dmem, imem);
         Ran::counted(machine, count)
@@ -121,6 +114,13 @@ impl Words for Transfer {
 
     fn copy(&self, b: &mut Buffers) {
         self.shape.copy(self.storing, b);
+    }
+}
+
+#[cfg(before)]
+impl Earlier for Transfer {
+    fn before(&self, b: &mut Buffers) -> crate::before::Ran {
+        crate::before::run(self.start.earlier, [u32::MAX, 0], b)
     }
 }
 

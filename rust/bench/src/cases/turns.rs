@@ -1,10 +1,12 @@
 //! Single turns, each a call of its own. Their cost must not grow with RDRAM.
 
 use super::dp::{fill_list, Commands};
+#[cfg(before)]
+use super::Earlier;
 use super::{Words, END, RAMADDR, RDLEN, SPADDR, START};
-use crate::buffers::{written, Buffers};
-use crate::plain::{Machine, Ran};
-use crate::timing::{measure, Line};
+use crate::buffers::{Buffers, Start};
+use crate::plain::{Machine, Ran, SLOTS};
+use crate::timing::Line;
 use ofersky::{Outcome, State};
 use std::hint::black_box;
 
@@ -13,87 +15,104 @@ const SIZES: [(usize, &str); 3] = [(1 << 12, "4 KiB"), (1 << 20, "1 MiB"), (1 <<
 /// As many as the smallest RDRAM has words.
 const TURNS: usize = 512;
 
-pub fn all(show: &mut dyn FnMut(Line)) {
-    for (rdram, name) in SIZES {
-        show(sp_turns(&mut Buffers::new(rdram, 0), name));
-    }
-    each_dp(|buffers, turns| show(turns.beside_plain(buffers)));
+/// Which turns.
+#[derive(Clone, Copy, PartialEq)]
+enum Kind {
+    Sp,
+    Fetch,
+    Consume,
+    /// A fetch and then a consumer turn: together what a DP turn was before there was a queue.
+    FetchAndConsume,
 }
 
-fn sp_turns(buffers: &mut Buffers, name: &str) -> Line {
-    let (machine, state) = written(&[(SPADDR, 0), (RAMADDR, 0), (RDLEN, 0xFFF)]);
-    measure(
-        format!("SP turns, RDRAM of {name}"),
-        TURNS,
-        buffers,
-        |b| {
-            let mut done = Outcome {
-                state,
-                ..Default::default()
-            };
-            let mut count = 0;
-            for _ in 0..TURNS {
-                let (dmem, imem) = (&mut b.dmem[..], &mut b.imem[..]);
-                done = ofersky::sp_turn(done.state, &mut b.rdram, dmem, imem);
-                count += done.answer.count;
-            }
-            done.answer.count = count;
-            done
-        },
-        |b| {
-            let mut machine = machine;
-            let mut count = 0;
-            for _ in 0..TURNS {
-                // Each turn finds the machine in memory, as a lone turn would.
-                let sp = &mut black_box(&mut machine).sp;
-                count += sp.turn(&mut b.rdram, &mut b.dmem, &mut b.imem);
-            }
-            Ran::counted(machine, count)
-        },
-        |b| {
-            for at in (0..8 * TURNS).step_by(8) {
-                let at = black_box(at);
-                b.dmem[at..at + 8].copy_from_slice(&b.rdram[at..at + 8]);
-            }
-        },
-    )
-}
-
-/// DP turns over a list of mixed commands at the start of RDRAM.
-struct DpTurns {
-    name: String,
-    machine: Machine,
-    state: State,
-}
-
-impl DpTurns {
-    fn new(name: &str) -> DpTurns {
-        let (machine, state) = written(&[(START, 0), (END, 8 * TURNS as u32)]);
-        DpTurns {
-            name: format!("DP turns, RDRAM of {name}"),
-            machine,
-            state,
+impl Kind {
+    fn name(self) -> &'static str {
+        match self {
+            Kind::Sp => "SP turns",
+            Kind::Fetch => "DP turns",
+            Kind::Consume => "consumer turns",
+            Kind::FetchAndConsume => "DP turn and consumer turn",
         }
     }
+}
 
-    /// By the call of a library.
-    fn called(&self, turn: impl Fn(State, &[u8], &[u8]) -> Outcome, b: &mut Buffers) -> Outcome {
-        let mut done = Outcome {
-            state: self.state,
-            ..Default::default()
+/// Turns over the first words of RDRAM: a load, or a list of mixed commands.
+struct Turns {
+    name: String,
+    kind: Kind,
+    /// Where fetches alone begin anew, because the queue is full; and consumer turns alone, because it is empty.
+    starts: Vec<Start>,
+}
+
+impl Turns {
+    fn new(kind: Kind, memory: &str, b: &Buffers) -> Turns {
+        let list = |from: usize, words: usize| {
+            let [from, to] = [from, from + words].map(|word| 8 * word as u32);
+            Start::written(&[(START, from), (END, to)])
         };
+        let blocks = (0..TURNS).step_by(SLOTS).map(|from| list(from, SLOTS));
+        let starts = match kind {
+            Kind::Sp => vec![Start::written(&[(SPADDR, 0), (RAMADDR, 0), (RDLEN, 0xFFF)])],
+            Kind::Fetch => blocks.collect(),
+            Kind::Consume => blocks.map(|start| start.fetched(SLOTS, b)).collect(),
+            Kind::FetchAndConsume => vec![list(0, TURNS)],
+        };
+        let name = match kind {
+            Kind::Consume => kind.name().to_string(),
+            _ => format!("{}, RDRAM of {memory}", kind.name()),
+        };
+        Turns { name, kind, starts }
+    }
+
+    /// By the calls of the library; their counts are added up.
+    fn called(&self, turn: impl Fn(State, &mut Buffers) -> Outcome, b: &mut Buffers) -> Outcome {
+        let mut done = Outcome::default();
         let mut count = 0;
-        for _ in 0..TURNS {
-            done = turn(done.state, &b.rdram, &b.dmem[..]);
-            count += done.answer.count;
-            black_box(done.answer.value);
+        for start in &self.starts {
+            done.state = start.state;
+            for _ in 0..TURNS / self.starts.len() {
+                done = turn(done.state, b);
+                count += done.answer.count;
+                black_box(done.answer.value);
+            }
         }
         done.answer.count = count;
         done
     }
+
+    /// By turns in plain Rust. Each finds the machine in memory, as a lone turn would.
+    fn done(&self, turn: impl Fn(&mut Machine, &mut Buffers) -> u32, b: &mut Buffers) -> Ran {
+        let mut machine = Machine::default();
+        let mut count = 0;
+        for start in &self.starts {
+            machine = start.machine;
+            for _ in 0..TURNS / self.starts.len() {
+                count += turn(black_box(&mut machine), b);
+            }
+        }
+        Ran::counted(machine, count)
+    }
 }
 
-impl Words for DpTurns {
+fn sp_turn(s: State, b: &mut Buffers) -> Outcome {
+    ofersky::sp_turn(s, &mut b.rdram, &mut b.dmem[..], &mut b.imem[..])
+}
+
+fn fetch(s: State, b: &mut Buffers) -> Outcome {
+    ofersky::dp_turn(s, &b.rdram, &b.dmem[..])
+}
+
+fn plain_fetch(m: &mut Machine, b: &mut Buffers) -> u32 {
+    m.dp.fetch(&mut m.queue, &b.rdram, &b.dmem) as u32
+}
+
+fn plain_consume(m: &mut Machine) -> u32 {
+    let word = m.dp.consume(&m.queue);
+    black_box(word.unwrap_or_default());
+    word.is_some() as u32
+}
+
+impl Words for Turns {
     type Given = Outcome;
 
     fn name(&self) -> &str {
@@ -105,43 +124,90 @@ impl Words for DpTurns {
     }
 
     fn ours(&self, b: &mut Buffers) -> Outcome {
-        self.called(ofersky::dp_turn, b)
-    }
-
-    #[cfg(before)]
-    fn before(&self, b: &mut Buffers) -> Outcome {
-        self.called(crate::before::dp_turn, b)
+        match self.kind {
+            Kind::Sp => self.called(sp_turn, b),
+            Kind::Fetch => self.called(fetch, b),
+            Kind::Consume => self.called(|s, _| ofersky::consumer_turn(s), b),
+            Kind::FetchAndConsume => {
+                self.called(|s, b| ofersky::consumer_turn(fetch(s, b).state), b)
+            }
+        }
     }
 
     fn plain(&self, b: &mut Buffers) -> Ran {
-        let mut machine = self.machine;
-        let mut count = 0;
-        for _ in 0..TURNS {
-            let word = black_box(&mut machine).dp.turn(&b.rdram, &b.dmem);
-            count += word.is_some() as u32;
-            black_box(u64::from_be_bytes(word.unwrap_or_default()));
+        match self.kind {
+            Kind::Sp => self.done(|m, b| m.sp.turn(&mut b.rdram, &mut b.dmem, &mut b.imem), b),
+            Kind::Fetch => self.done(plain_fetch, b),
+            Kind::Consume => self.done(|m, _| plain_consume(m), b),
+            Kind::FetchAndConsume => self.done(
+                |m, b| {
+                    plain_fetch(m, b);
+                    plain_consume(black_box(m))
+                },
+                b,
+            ),
         }
-        Ran::counted(machine, count)
     }
 
     fn copy(&self, b: &mut Buffers) {
         for at in (0..8 * TURNS).step_by(8) {
             let at = black_box(at);
-            black_box::<[u8; 8]>(b.rdram[at..at + 8].try_into().unwrap());
+            if self.kind == Kind::Sp {
+                b.dmem[at..at + 8].copy_from_slice(&b.rdram[at..at + 8]);
+            } else {
+                black_box::<[u8; 8]>(b.rdram[at..at + 8].try_into().unwrap());
+            }
         }
     }
 }
 
-/// In RDRAM of every size.
-fn each_dp(mut time: impl FnMut(&mut Buffers, &DpTurns)) {
-    for (rdram, name) in SIZES {
+#[cfg(before)]
+impl Earlier for Turns {
+    fn before(&self, b: &mut Buffers) -> crate::before::Ran {
+        let turn = match self.kind {
+            Kind::Sp => crate::before::sp_turn,
+            Kind::FetchAndConsume => |s, b: &mut Buffers| crate::before::dp_turn(s, b),
+            _ => panic!("{} are new", self.kind.name()),
+        };
+        let mut state = self.starts[0].earlier;
+        let mut count = 0;
+        loop {
+            let mut outcome = turn(state, b);
+            count += outcome.answer.count;
+            black_box(outcome.answer.value);
+            if count as usize == TURNS {
+                outcome.answer.count = count;
+                return crate::before::Ran { outcome, words: 0 };
+            }
+            state = outcome.state;
+        }
+    }
+}
+
+/// Turns of a kind in RDRAM of every size; consumer turns take no memory.
+fn each(kind: Kind, mut time: impl FnMut(&mut Buffers, &Turns)) {
+    let sizes = if kind == Kind::Consume {
+        1
+    } else {
+        SIZES.len()
+    };
+    for (rdram, name) in SIZES.into_iter().take(sizes) {
         let mut buffers = Buffers::new(rdram, 0);
         fill_list(&mut buffers.rdram[..8 * TURNS], Commands::Mixed);
-        time(&mut buffers, &DpTurns::new(name));
+        let turns = Turns::new(kind, name, &buffers);
+        time(&mut buffers, &turns);
+    }
+}
+
+pub fn all(show: &mut dyn FnMut(Line)) {
+    for kind in [Kind::Sp, Kind::Fetch, Kind::Consume, Kind::FetchAndConsume] {
+        each(kind, |buffers, turns| show(turns.beside_plain(buffers)));
     }
 }
 
 #[cfg(before)]
 pub fn before_and_after(show: &mut dyn FnMut(Line)) {
-    each_dp(|buffers, turns| show(turns.beside_before(buffers)));
+    for kind in [Kind::Sp, Kind::FetchAndConsume] {
+        each(kind, |buffers, turns| show(turns.beside_before(buffers)));
+    }
 }

@@ -1,6 +1,8 @@
 //! The DP engine.
 
-use super::{words, Bank};
+use super::{words, Bank, Ring, SLOTS};
+use std::iter::Take;
+use std::slice::ChunksExactMut;
 
 #[derive(Clone, Copy, Default)]
 pub struct Dp {
@@ -20,6 +22,9 @@ pub struct Dp {
     pub pipebusy: bool,
     pub wordsleft: u8,
     pub line: bool,
+    pub queued: u8,
+    /// The slot of the oldest queued word.
+    pub head: u8,
 }
 
 const SYNC_FULL: u8 = 0x29;
@@ -53,9 +58,9 @@ impl Dp {
         self.endpending = false;
     }
 
+    /// Counts a word for its command; a SYNC_FULL acts here.
     #[inline]
     fn frame(&mut self, op: u8) {
-        self.pipebusy = true;
         if self.wordsleft > 0 {
             self.wordsleft -= 1;
             return;
@@ -67,38 +72,85 @@ impl Dp {
         }
     }
 
-    /// One turn; gives the word fetched.
+    /// One turn: fetches a word into the queue. Tells whether it did.
     #[inline]
-    pub fn turn(&mut self, rdram: &[u8], dmem: &Bank) -> Option<[u8; 8]> {
-        if !self.runs() || self.freeze {
-            return None;
+    pub fn fetch(&mut self, ring: &mut Ring, rdram: &[u8], dmem: &Bank) -> bool {
+        if !self.runs() || self.freeze || usize::from(self.queued) == SLOTS {
+            return false;
         }
         let word = if self.xbus {
             words::load(dmem, (self.current & 0xFF8) as usize)
         } else {
             words::load(rdram, self.current as usize)
         };
-        self.frame(word[0] & 63);
+        ring[(self.head + self.queued) as usize % SLOTS] = u64::from_be_bytes(word);
+        self.queued += 1;
+        self.pipebusy = true;
         self.current = (self.current + 8) & 0xFF_FFFF;
         if !self.runs() && self.endpending {
             self.start_list();
         }
+        true
+    }
+
+    #[inline]
+    fn consumes(&self) -> bool {
+        self.queued > 0 && !self.freeze
+    }
+
+    /// One consumer turn; gives the word taken.
+    #[inline]
+    pub fn consume(&mut self, ring: &Ring) -> Option<u64> {
+        if !self.consumes() {
+            return None;
+        }
+        let word = ring[self.head as usize % SLOTS];
+        self.head = (self.head + 1) % SLOTS as u8;
+        self.queued -= 1;
+        self.frame((word >> 56) as u8 & 63);
         Some(word)
     }
 
-    /// Turns until the budget is used, nothing is fetched or the output is full; gives the words put out.
-    pub fn run(&mut self, budget: u32, rdram: &[u8], dmem: &Bank, out: &mut [u8]) -> u32 {
+    /// A fetch and a consumer turn, as far as they may; tells whether any acted.
+    #[inline]
+    pub fn round(&mut self, ring: &mut Ring, rest: &mut Rest, rdram: &[u8], dmem: &Bank) -> bool {
+        let fetched = rest.fetches > 0 && self.fetch(ring, rdram, dmem);
+        rest.fetches -= fetched as u32;
+        if !self.consumes() {
+            return fetched;
+        }
+        let Some(to) = rest.room.next() else {
+            return fetched;
+        };
+        let word = self.consume(ring).unwrap_or_default();
+        to.copy_from_slice(&word.to_be_bytes());
+        rest.words += 1;
+        true
+    }
+
+    /// Rounds until neither acts; gives the words consumed.
+    pub fn run(&mut self, ring: &mut Ring, mut rest: Rest, rdram: &[u8], dmem: &Bank) -> u32 {
         // A local copy, so that the loop can hold these registers in the processor's.
         let mut dp = *self;
-        let mut count = 0;
-        for to in out.chunks_exact_mut(8).take(budget as usize) {
-            match dp.turn(rdram, dmem) {
-                Some(word) => to.copy_from_slice(&word),
-                None => break,
-            }
-            count += 1;
-        }
+        while dp.round(ring, &mut rest, rdram, dmem) {}
         *self = dp;
-        count
+        rest.words
+    }
+}
+
+/// What is left to a run of its budgets and its output, and how many words it has consumed.
+pub struct Rest<'a> {
+    fetches: u32,
+    room: Take<ChunksExactMut<'a, u8>>,
+    pub words: u32,
+}
+
+impl Rest<'_> {
+    pub fn new([fetches, words]: [u32; 2], out: &mut [u8]) -> Rest<'_> {
+        Rest {
+            fetches,
+            room: out.chunks_exact_mut(8).take(words as usize),
+            words: 0,
+        }
     }
 }

@@ -73,7 +73,7 @@ impl Dp {
             | (self.flush as u32) << 2
             | (self.pipebusy as u32) << 3
             | (self.pipebusy as u32) << 5
-            | ((self.wordsleft > 0) as u32) << 6
+            | ((self.queued > 0) as u32) << 6
             | 0x80
             | (self.runs() as u32) << 8
             | (self.endpending as u32) << 9
@@ -96,6 +96,7 @@ impl Dp {
         self.startpending = false;
         self.endpending = false;
         self.wordsleft = 0;
+        self.queued = 0;
     }
 
     fn write_status(&mut self, v: u32) {
@@ -149,7 +150,7 @@ impl Dp {
     pub fn tick(&mut self, n: u32) {
         let add = |counter: u32| counter.wrapping_add(n) & 0xFF_FFFF;
         self.clock = add(self.clock);
-        if self.wordsleft > 0 {
+        if self.queued > 0 {
             self.cmdcount = add(self.cmdcount);
         }
         if self.pipebusy {

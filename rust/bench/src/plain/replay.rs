@@ -1,5 +1,6 @@
 //! A replay of a recording whose records are all good.
 
+use super::dp::Rest;
 use super::listing::Listing;
 use super::{words, Bank, Machine};
 
@@ -61,7 +62,8 @@ impl Machine {
                 listing.put_run(b'S', count);
             }
             4 => {
-                let count = self.dp.run(number(rest), lent.rdram, lent.dmem, lent.words);
+                let rest = Rest::new([number(rest); 2], lent.words);
+                let count = self.dp.run(&mut self.queue, rest, lent.rdram, lent.dmem);
                 listing.put_run(b'D', count);
             }
             5 => self.dp.tick(number(rest)),
@@ -73,16 +75,16 @@ impl Machine {
                 listing.put_found(b'L', address, lent.load(address), expected);
             }
             10 => {
-                let budgets = [number(rest), number(rest)];
+                let (sp, dp) = (number(rest), number(rest));
                 let Lent {
                     rdram,
                     dmem,
                     imem,
                     words,
                 } = lent;
-                let [moved, put] = self.run(budgets, rdram, dmem, imem, &mut words[..]);
+                let [moved, consumed] = self.run([sp, dp, dp], rdram, dmem, imem, &mut words[..]);
                 listing.put_run(b'S', moved);
-                listing.put_run(b'D', put);
+                listing.put_run(b'D', consumed);
             }
             _ => panic!("no record has kind {kind}"),
         }

@@ -1,5 +1,6 @@
-//! `generate SEED BYTES` writes a recording of at most BYTES bytes, and
-//! `generate SEED BYTES merged` one with runs of both engines in it, too.
+//! `generate SEED BYTES` writes a recording of at most BYTES bytes,
+//! `generate SEED BYTES merged` one with runs of both engines in it, too, and
+//! `generate SEED BYTES queue` one in which words often stay queued beside that.
 //!
 //! The traffic is made of sequences, each a few records for one of the engines.
 //! Every pass goes through all sequences in a shuffled order. The model is
@@ -189,7 +190,7 @@ impl Generator {
 
     /// Runs on a copy, only to know how many words the SP moves.
     fn count_sp_words(&mut self, budget: u32) {
-        self.sp_words += self.machine.clone().run(budget, 0, &mut []).moved;
+        self.sp_words += self.machine.clone().run(budget, 0, 0, &mut []).moved;
     }
 
     fn tick(&mut self, n: u32) {
@@ -839,6 +840,86 @@ impl Generator {
         }
     }
 
+    /// A list over what stands in memory, and longer than a run's output: words
+    /// stay queued behind the run, and mostly for other sequences, too. One of
+    /// them is a SYNC_FULL.
+    fn words_stay_queued(&mut self) {
+        let xbus = self.random.pick(&[CLEAR_XBUS, SET_XBUS]);
+        self.make_ready(xbus);
+        let words = 258 + self.random.below(60);
+        let start = self.random.below(RDRAM_BYTES as u32 - 8 * words) & RAM_BITS;
+        let late = start + 8 * (256 + self.random.below(words - 256));
+        let sync_full = self.command(0x29)[0];
+        let place = if self.machine.dp.xbus {
+            DMEM + late % 0x1000
+        } else {
+            late
+        };
+        self.store(place, sync_full);
+        self.write_list((start, start + 8 * words));
+        let few = 257 + self.random.below(34);
+        let budget = self.random.pick(&[ALL, few, few]);
+        self.dp_run(budget);
+        self.read(DP_STATUS);
+        for _ in 0..3 + self.random.below(5) {
+            self.beside_queued_words();
+        }
+        if self.random.once_in(4) {
+            self.dp_run(ALL);
+            self.read(DP_STATUS);
+        }
+    }
+
+    /// A step that words which are queued have a part in, or may lose by.
+    fn beside_queued_words(&mut self) {
+        match self.random.below(12) {
+            0 | 1 => self.read_one_of(&[DP_STATUS, DP_CURRENT]),
+            2 | 3 => self.tick_and_read(),
+            4..=6 => {
+                let budget = self.random.below(7);
+                self.dp_run(budget);
+                self.read(DP_STATUS);
+            }
+            7 => {
+                self.write(DP_STATUS, SET_FREEZE);
+                self.dp_run(ALL);
+                self.read(DP_STATUS);
+                self.write(DP_STATUS, CLEAR_FREEZE);
+            }
+            8 => {
+                self.begin_list(2);
+                self.read(DP_STATUS);
+            }
+            9 => {
+                let end = self.machine.dp.current + 8 * self.random.below(40);
+                self.write(DP_END, end);
+            }
+            10 => self.transfer_beside_queued_words(),
+            _ => {
+                let others = self.random.number() & 0x3CF;
+                self.write(DP_STATUS, SET_FLUSH | others);
+                self.read(DP_STATUS);
+                self.write(DP_STATUS, CLEAR_FLUSH | CLEAR_FREEZE);
+            }
+        }
+    }
+
+    /// A transfer that writes near CURRENT: fetches that a full queue holds back
+    /// see more of it.
+    fn transfer_beside_queued_words(&mut self) {
+        self.run(ALL, 0);
+        self.write_spaddr_and_ramaddr();
+        let current = self.machine.dp.current;
+        self.aim_at(current);
+        let words = 1 + self.random.below(12);
+        let into_bank = self.machine.dp.xbus;
+        let register = if into_bank { SP_RDLEN } else { SP_WRLEN };
+        self.write(register, 8 * words - 1);
+        let budgets = (1 + self.random.below(8), 1 + self.random.below(8));
+        self.run(budgets.0, budgets.1);
+        self.read_one_of(&[DP_STATUS, DP_CURRENT, SP_RAMADDR]);
+    }
+
     /// Both engines by turns, with no plan.
     fn mixed(&mut self) {
         for _ in 0..16 {
@@ -897,7 +978,23 @@ const MERGED_SEQUENCES: [Sequence; 3] = [
     Generator::list_and_transfer,
 ];
 
-fn generate(seed: u64, limit: usize, merged: bool) -> Vec<u8> {
+/// And these where words are to stay queued.
+const QUEUE_SEQUENCES: [Sequence; 12] = [Generator::words_stay_queued; 12];
+
+/// The sequences of a pass. Those with words that stay queued have runs of both
+/// engines, too.
+fn sequences(merged: bool, queue: bool) -> Vec<Sequence> {
+    let mut sequences = SEQUENCES.to_vec();
+    if merged {
+        sequences.extend(MERGED_SEQUENCES);
+    }
+    if queue {
+        sequences.extend(QUEUE_SEQUENCES);
+    }
+    sequences
+}
+
+fn generate(seed: u64, limit: usize, merged: bool, queue: bool) -> Vec<u8> {
     let mut generator = Generator {
         random: Random::new(seed),
         mirrors: Random::new(!seed),
@@ -915,10 +1012,7 @@ fn generate(seed: u64, limit: usize, merged: bool) -> Vec<u8> {
         generator.fill();
     }
     while !generator.done {
-        let mut sequences = SEQUENCES.to_vec();
-        if merged {
-            sequences.extend(MERGED_SEQUENCES);
-        }
+        let mut sequences = sequences(merged, queue);
         generator.random.shuffle(&mut sequences);
         for sequence in sequences {
             sequence(&mut generator);
@@ -929,17 +1023,18 @@ fn generate(seed: u64, limit: usize, merged: bool) -> Vec<u8> {
 
 fn main() -> io::Result<()> {
     let arguments: Vec<String> = std::env::args().skip(1).collect();
-    let (numbers, merged) = match &arguments[..] {
-        [numbers @ .., last] if last == "merged" => (numbers, true),
-        numbers => (numbers, false),
+    let (numbers, merged, queue) = match &arguments[..] {
+        [numbers @ .., last] if last == "merged" => (numbers, true, false),
+        [numbers @ .., last] if last == "queue" => (numbers, true, true),
+        numbers => (numbers, false, false),
     };
     let numbers: Vec<u64> = numbers
         .iter()
         .filter_map(|word| word.parse().ok())
         .collect();
     let [seed, limit] = numbers[..] else {
-        eprintln!("generate SEED BYTES [merged]");
+        eprintln!("generate SEED BYTES [merged|queue]");
         std::process::exit(2);
     };
-    io::stdout().write_all(&generate(seed, limit as usize, merged))
+    io::stdout().write_all(&generate(seed, limit as usize, merged, queue))
 }

@@ -157,8 +157,9 @@ impl Bench {
 
     /// Goes on with an outcome's state and gives its answer.
     fn answered(&mut self, outcome: Outcome) -> Answer {
-        self.took(outcome, outcome.answer);
-        outcome.answer
+        let answer = outcome.answer;
+        self.took(outcome, answer);
+        answer
     }
 
     pub fn sp_turn(&mut self) -> Answer {
@@ -174,23 +175,26 @@ impl Bench {
         }
     }
 
-    /// A run of both engines. Gives the SP's answer and the DP's words.
-    pub fn run(&mut self, sp_budget: u32, dp_budget: u32, out: &mut [u8]) -> (Answer, u32) {
+    /// A run with the budgets of the SP, the DP and the consumer. Gives the SP's
+    /// answer and the consumer's words.
+    pub fn run(&mut self, budgets: [u32; 3], out: &mut [u8]) -> (Answer, u32) {
         let (rdram, dmem, imem) = (&mut self.rdram, &mut self.dmem, &mut self.imem);
-        let ran = run(&self.state, sp_budget, dp_budget, rdram, dmem, imem, out);
+        let [sp, dp, consumer] = budgets;
+        let ran = run(&self.state, sp, dp, consumer, rdram, dmem, imem, out);
         (self.answered(ran.outcome), ran.words)
     }
 
-    /// A run in which the DP takes no turn.
+    /// A run in which the SP alone takes turns.
     pub fn run_sp(&mut self, budget: u32) -> Answer {
-        let (answer, words) = self.run(budget, 0, &mut []);
+        let (answer, words) = self.run([budget, 0, 0], &mut []);
         assert_eq!(words, 0);
         answer
     }
 
-    /// A run in which the SP takes no turn. Gives the number of words put out.
+    /// A run in which the SP takes no turn, and the consumer has the DP's budget.
+    /// Gives the number of words put out.
     pub fn run_dp(&mut self, budget: u32, out: &mut [u8]) -> u32 {
-        let (answer, words) = self.run(0, budget, out);
+        let (answer, words) = self.run([0, budget, budget], out);
         assert_eq!(answer, success(0, 0));
         words
     }
@@ -198,6 +202,30 @@ impl Bench {
     pub fn dp_turn(&mut self) -> Answer {
         let outcome = dp_turn(&self.state, &self.rdram, &self.dmem);
         self.answered(outcome)
+    }
+
+    pub fn consumer_turn(&mut self) -> Answer {
+        let outcome = consumer_turn(&self.state);
+        self.answered(outcome)
+    }
+
+    /// DP turns that each fetch a word.
+    pub fn fetches(&mut self, turns: u32) {
+        for _ in 0..turns {
+            assert_eq!(self.dp_turn(), success(0, 1));
+        }
+    }
+
+    /// A fetch and then a consumer turn, whose answer is given. With nothing
+    /// queued before, it is about the word that was fetched.
+    pub fn fetch_and_consume(&mut self) -> Answer {
+        let queued = self.state.queue.len();
+        let fetched = self.dp_turn();
+        let consumed = self.consumer_turn();
+        assert_eq!(fetched.value, 0);
+        let after = queued + fetched.count as usize - consumed.count as usize;
+        assert_eq!(self.state.queue.len(), after);
+        consumed
     }
 
     pub fn look(&self) -> Part {
@@ -236,7 +264,7 @@ pub fn success(value: u64, count: u32) -> Answer {
 /// The outcome of a call that is declined.
 pub fn declined(state: &State, number: u32) -> Outcome {
     Outcome {
-        state: *state,
+        state: state.clone(),
         answer: Answer {
             number,
             value: 0,
@@ -245,8 +273,8 @@ pub fn declined(state: &State, number: u32) -> Outcome {
     }
 }
 
-/// A sound state with a store and a list that run, so that no turn on it
-/// leaves it as it was.
+/// A sound state with a store and a list that run and a word that is queued, so
+/// that no turn on it leaves it as it was.
 pub fn running() -> State {
     let mut state = power_up();
     state.sp.busy = 1;
@@ -255,6 +283,7 @@ pub fn running() -> State {
     state.sp.len = 0x18;
     state.dp.current = 0x28;
     state.dp.limit = 0x38;
+    state.queue = vec![0x2700_0000_0000_0001];
     state
 }
 
@@ -264,6 +293,7 @@ pub fn full_state() -> State {
     State {
         sp: full_sp(),
         dp: full_dp(),
+        queue: vec![0x2900_0000_0000_0002, 0x0F00_0000_0000_0003, u64::MAX],
     }
 }
 
@@ -310,6 +340,7 @@ fn full_dp() -> DpState {
         pipebusy: 1,
         wordsleft: 21,
         line: 1,
+        head: 30,
     }
 }
 
@@ -367,7 +398,7 @@ pub fn expect_numbers(bench: &Bench, all: u32, without_imem: u32) {
     let (rdram, dmem, imem) = (&mut tried.rdram, &mut tried.dmem, &mut tried.imem);
     let mut out = [0x55; 32];
     let turned = sp_turn(&bench.state, rdram, dmem, imem);
-    let ran = run(&bench.state, 4, 4, rdram, dmem, imem, &mut out);
+    let ran = run(&bench.state, 4, 4, 4, rdram, dmem, imem, &mut out);
     let outcomes = [
         (turned, all),
         (ran.outcome, all),
@@ -394,6 +425,7 @@ pub fn expect_register_calls(state: &State, number: u32) {
         tick(state, 1),
         sp_break(state),
         acknowledge(state),
+        consumer_turn(state),
     ];
     for outcome in outcomes {
         assert_eq!(outcome.answer.number, number);
@@ -425,6 +457,20 @@ impl Random {
         (self.0.wrapping_mul(0x2545_F491_4F6C_DD1D) >> 32) as u32
     }
 
+    pub fn word(&mut self) -> u64 {
+        u64::from(self.number()) << 32 | u64::from(self.number())
+    }
+
+    /// Words for a queue: often none, or as many as it holds.
+    pub fn queue(&mut self) -> Vec<u64> {
+        let words = match self.number() % 4 {
+            0 => 0,
+            1 => 32,
+            _ => self.number() % 33,
+        };
+        (0..words).map(|_| self.word()).collect()
+    }
+
     /// A sound state; numbers are often at the edge of their field.
     pub fn sound_state(&mut self) -> State {
         loop {
@@ -440,6 +486,8 @@ impl Random {
                 };
             }
             state.dp.wordsleft = (self.number() % 22) as u8;
+            state.dp.head = (self.number() % 32) as u8;
+            state.queue = self.queue();
             if is_sound(&state) {
                 return state;
             }

@@ -6,6 +6,9 @@ use Rattle.engines.proofs.merged.run.Tie as tie
 sp-refusal-requires : tie.Need-sp-refusal-requires
 sp-refusal-requires c κs = search needs
 
+room-for-requires : tie.Need-room-for-requires
+room-for-requires c κs = search needs
+
 rounds-requires : tie.Need-rounds-requires
 rounds-requires c κs = search needs
 
@@ -24,8 +27,9 @@ same-length-4 c = search needs
 returns : tie.Need-returns
 returns c =
     let t = c .before .before .before .before .before .before .before .before in
-    let i = t .before .before .before .before .before in
-    run-done (i .before .sp-refusal .ensures) _ _ (i .if1 .taken) (t .rounds .ensures)
+    let k = t .before .before .before .before .before in
+    let i = k .before .before in
+    run-done (i .before .sp-refusal .ensures) _ _ _ (i .if1 .taken) (k .room-for .ensures) (t .rounds .ensures)
 
 declined-requires : tie.Need-declined-requires
 declined-requires c κs = search needs
@@ -42,13 +46,14 @@ same-length-7 c = search needs
 returns-2 : tie.Need-returns-2
 returns-2 c =
     let i = c .before in
-    run-declined (i .before .sp-refusal .ensures) _ _ (i .if1 .left) (c .declined .ensures)
+    run-declined (i .before .sp-refusal .ensures) _ _ _ (i .if1 .left) (c .declined .ensures)
 
 pub run-spec : {M : Type 1} → statement M
 run-spec =
     tie.close
     (tie.spec
     sp-refusal-requires
+    room-for-requires
     rounds-requires
     same-length
     same-length-2

@@ -15,7 +15,9 @@ dp-decoded-requires c κs = search needs
 
 returns : tie.Need-returns
 unfolding decoded
-returns c = simp (sym (c .before .before .before .before .before .flags .ensures), c .before .before .before .before .if1 .taken, c .before .sp-decoded .ensures, c .dp-decoded .ensures)
+returns c =
+    let d = c .before in
+    simp (sym (d .before .before .before .before .before .flags .ensures), d .before .before .before .before .if1 .taken, d .before .sp-decoded .ensures, d .dp-decoded .ensures)
 
 unsound-requires : tie.Need-unsound-requires
 unsound-requires c κs = search needs

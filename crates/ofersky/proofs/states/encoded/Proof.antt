@@ -11,7 +11,7 @@ dp-encoded-requires c κs = search needs
 
 returns : tie.Need-returns
 unfolding encoded
-returns c = simp (c .before .sp-encoded .ensures, c .dp-encoded .ensures)
+returns c = let d = c .before in simp (d .before .sp-encoded .ensures, d .dp-encoded .ensures)
 
 pub encoded-spec : {M : Type 1} → statement M
 encoded-spec = tie.close (tie.spec sp-encoded-requires dp-encoded-requires returns)
