@@ -59,9 +59,9 @@ runs-alone w budget z =
     record {
       spLeaves = λ i. world (a .given i .outcome .state) (a .bytes i);
       spLists = ap spLine (a .given);
+      dpLists = ap (runLine letterD) (words-drawn w (sp-checked (w .state) (w .memory) z) (lengths-checked w z) .runWords 0 budget budget room);
       dpKeepsSp = b .registers;
       dpKeepsMemory = b .bytes;
-      dpLists = ap (runLine letterD) (words-drawn w (sp-checked (w .state) (w .memory) z) (lengths-checked w z) .runWords 0 budget budget room);
       spOfBoth = (refl, rw (a .given));
       dpOfBoth = (refl, rw (b .count));
     }

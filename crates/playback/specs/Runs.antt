@@ -24,9 +24,9 @@ pub record RunsAlone (w : World) (budget : ℕ) : Type 0 where
   pub spLeaves : after (SpRun budget) w
       ≡ (let n = spTurns w budget in world (withSp (w .state) (spAfter n (w .state .sp))) (memoryAfter n (w .state .sp) (w .memory)))
   pub spLists : line (SpRun budget) w ≡ runLine letterS (spTurns w budget)
+  pub dpLists : line (DpRun budget) w ≡ runLine letterD (dpWords w budget)
   pub dpKeepsSp : after (DpRun budget) w .state .sp ≡ w .state .sp
   pub dpKeepsMemory : after (DpRun budget) w .memory ≡ w .memory
-  pub dpLists : line (DpRun budget) w ≡ runLine letterD (dpWords w budget)
   -- With one budget 0 kind 10 leaves what they leave, and lists a 0 beside their line
   pub spOfBoth : (after (Run budget 0) w ≡ after (SpRun budget) w) × (line (Run budget 0) w ≡ line (SpRun budget) w ++ runLine letterD 0)
   pub dpOfBoth : (after (Run 0 budget) w ≡ after (DpRun budget) w) × (line (Run 0 budget) w ≡ runLine letterS 0 ++ line (DpRun budget) w)

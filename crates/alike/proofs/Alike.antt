@@ -22,22 +22,22 @@ use Rattle.dp.proofs.Cases.{ready, fetching, consuming}
 use Rattle.dp.proofs.Listed.{next-fetched, next-still, ring-fetched, ring-still, next-consumed, none-consumed}
 use Rattle.dp.proofs.Registers.{flush-written}
 use Rattle.dp.proofs.Unchanged.{end-keeps, status-keeps-queue}
 use Rattle.machine.specs.declared.State.{State}
 use Rattle.machine.specs.declared.Outcome.{Outcome}
 use Rattle.machine.specs.declared.Register.{Register}
 use Rattle.machine.specs.declared.Register.the-variants.{Sp, Dp, Misaligned, Unmapped}
 use Rattle.machine.specs.Sound.{withDp, withRing, sound}
 use Rattle.machine.specs.Address.{registerAt}
 use Rattle.machine.specs.Refusals.{stateRefusal, accessRefusal, spRefusal, dpRefusal, declined, ifRefused}
 use Rattle.machine.specs.Calls.{readAt, writeAt, readRegister, writeRegister, tick, break, acknowledge}
 use Rattle.machine.specs.Turns.{spTurn, spTurnMemory, dpTurn, consumerTurn}
 use Rattle.machine.specs.Runs.{Kind, sp, dp, consumer, Budgets, budgets, Run, begin, acts, took, tried, round, live, rounds, left, merged, endOfRun, run}
 use Rattle.machine.specs.Look.{nextWordOf, emptyOf, shown, look}
 use Rattle.machine.specs.Kept.{Kept}
-use Rattle.machine.specs.Alike.{withoutSlot, Alike, SameOutcome, SameRun, CallsAlike}
+use Rattle.alike.specs.Alike.{withoutSlot, Alike, SameOutcome, SameRun, CallsAlike}
 use Rattle.machine.proofs.Sound.{facts}
 use Rattle.machine.proofs.Merged.{consumer-acts}
 use Rattle.machine.proofs.Kept.{calls-keep-sound, turn-keeps}
 
 -- Two choices by the same test are related where their arms are
 choices : {A : Type 0} (R : A → A → Type 0) (b c : Bool) (x y u v : A) → b ≡ c → (b ≡ true → c ≡ true → R x u)
