@@ -1,12 +1,17 @@
 -- A merged run, round by round: one more round of a live run, its end, and what every turn keeps.
-use Prim.Native.Nat.{ℕ, zero, suc, _-_, _<_, _≤_}
+use Prim.Native.Nat.{ℕ, zero, suc, _+_, _-_, _*_, _<_, _≤_}
 use mathlib.Core.Path.{_≡_, refl, sym, ap, _∙_}
 use mathlib.Core.Bool.{Bool, true, false, cond, _&&_, _||_}
 use native.Mathlib.Omega.{arith}
 use native.Mathlib.Nat.{le-refl, le-of-suc-le-suc}
+use mathlib.Core.List.{List}
 use lib.Dec.{ltb}
+use lib.ListN.{length, getD}
 use borrow.Author.Tests.{ltb-true, ltb-false}
+use Rattle.words.specs.Memory.{wordBytes}
 use Rattle.words.proofs.Tests.{by, either, and-true, contradiction}
+use Rattle.words.proofs.Bytes.{store-inside, store-outside}
+use Rattle.dp.specs.Queue.{oldest}
 use Rattle.dp.specs.Turn.{fetches, consumes}
 use Rattle.machine.specs.Runs.{Kind, sp, dp, consumer, Budgets, Run, acts, took, tried, round, live, rounds, left, merged}
 
@@ -35,6 +40,24 @@ pub consumer-acts : (b : Budgets) (r : Run) → acts b consumer r ≡ true → (
 consumer-acts b r e =
     let p = and-true (ltb (r .words) (b .consumer)) (consumes (r .state .dp)) e in
     (ltb-true (r .words) (b .consumer) (p .0), p .1)
+
+-- A consumer turn puts its word into the output after those before it, and changes no other byte
+module _ (r : Run) where
+  abbrev word : List ℕ
+  word = wordBytes (oldest (r .state .dp) (r .state .queue))
+
+  word-length : length word ≡ 8
+  unfolding wordBytes
+  word-length = refl
+
+  pub puts-word : (i : ℕ) → i < 8 → 8 * r .words + 8 ≤ length (r .out)
+      → getD (took consumer r .out) (8 * r .words + i) 0 ≡ getD (wordBytes (oldest (r .state .dp) (r .state .queue))) i 0
+  puts-word i h room =
+      let at : 8 * r .words ≡ r .words * 8 = omega arith in
+      rw at (store-inside (r .out) (r .words * 8) word i word-length h (omega arith))
+
+  pub keeps-others : (x : ℕ) → (8 * r .words ≤ x → x < 8 * r .words + 8 → ⊥) → getD (took consumer r .out) x 0 ≡ getD (r .out) x 0
+  keeps-others x h = store-outside (r .out) (r .words * 8) word x word-length (λ p q _. h (omega arith) (omega arith))
 
 -- None of three
 pub none-of : (a b c : Bool) → a || b || c ≡ false → (a ≡ false) × (b ≡ false) × (c ≡ false)
