@@ -9,7 +9,8 @@ use Rattle.words.specs.Bits.{asBit}
 use Rattle.words.specs.Memory.{Memory, wordValue, storeWord, wordBytes}
 use Rattle.words.proofs.Tests.{by, contradiction}
 use Rattle.sp.specs.Registers.{spRead, spReadNext, spWrite, spBreak}
-use Rattle.sp.specs.Turn.{spNext, spMove}
+use Rattle.sp.specs.Turn.{spNext, spMove, spAfter, memoryAfter}
+use Rattle.sp.specs.Rows.{rowTurns}
 use Rattle.dp.specs.declared.DpState.{DpState}
 use Rattle.dp.specs.declared.DpRegister.{DpRegister}
 use Rattle.dp.specs.declared.DpRegister.the-variants.{Start, End, Current, Status, Clock, CmdBusy, PipeBusy, TmemBusy}
@@ -31,6 +32,7 @@ use Rattle.machine.specs.Address.{registerAt}
 use Rattle.machine.specs.Refusals.{stateRefusal, accessRefusal, spRefusal, dpRefusal, declined, ifRefused}
 use Rattle.machine.specs.Calls.{readAt, writeAt, readRegister, writeRegister, tick, break, acknowledge}
 use Rattle.machine.specs.Turns.{spTurn, spTurnMemory, dpTurn, consumerTurn}
+use Rattle.machine.specs.Rows.{spRow, spRowMemory}
 use Rattle.machine.specs.Runs.{Kind, sp, dp, consumer, Budgets, budgets, Run, begin, acts, took, tried, round, live, rounds, left, merged, endOfRun, run}
 use Rattle.machine.specs.Look.{nextWordOf, emptyOf, shown, look}
 use Rattle.machine.specs.Kept.{Kept}
@@ -349,6 +351,19 @@ module _ (s t : State) (a : Alike s t) where
   unfolding spTurnMemory
   sp-turn-bytes m = λ i. ifRefused (sp-number m i) m (spMove (a .sp i) m)
 
+  sp-row-alike : (m : Memory) → SameOutcome (spRow s m) (spRow t m)
+  unfolding spRow
+  sp-row-alike m =
+      same-outcome (kept-first .spRow m) (kept-second .spRow m)
+      (same-call s t (spRefusal s m) (spRefusal t m) _ _ (sp-number m) (same s t a) (
+        λ i. record { number = 0; value = 0; count = rowTurns (a .sp i) },
+        record { sp = λ i. spAfter (rowTurns (a .sp i)) (a .sp i); dp = a .dp; words = a .words },
+      ))
+
+  sp-row-bytes : (m : Memory) → spRowMemory s m ≡ spRowMemory t m
+  unfolding spRowMemory
+  sp-row-bytes m = λ i. ifRefused (sp-number m i) m (memoryAfter (rowTurns (a .sp i)) (a .sp i) m)
+
   dp-turn-alike : (rdram dmem : List ℕ) → SameOutcome (dpTurn s rdram dmem) (dpTurn t rdram dmem)
   unfolding dpTurn
   dp-turn-alike rdram dmem =
@@ -487,6 +502,8 @@ calls-alike s t a = record {
   acknowledge = acknowledge-alike s t a;
   spTurn = sp-turn-alike s t a;
   spTurnBytes = sp-turn-bytes s t a;
+  spRow = sp-row-alike s t a;
+  spRowBytes = sp-row-bytes s t a;
   dpTurn = dp-turn-alike s t a;
   consumerTurn = consumer-turn-alike s t a;
   run = run-alike s t a;

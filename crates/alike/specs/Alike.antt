@@ -13,6 +13,7 @@ use Rattle.machine.specs.declared.Outcome.{Outcome}
 use Rattle.machine.specs.Sound.{sound}
 use Rattle.machine.specs.Calls
 use Rattle.machine.specs.Turns
+use Rattle.machine.specs.Rows
 use Rattle.machine.specs.Runs
 use Rattle.machine.specs.Look.{look}
 
@@ -48,6 +49,8 @@ pub record CallsAlike (s t : State) : Type 0 where
   pub acknowledge : SameOutcome (Calls.acknowledge s) (Calls.acknowledge t)
   pub spTurn : (m : Memory) → SameOutcome (Turns.spTurn s m) (Turns.spTurn t m)
   pub spTurnBytes : (m : Memory) → Turns.spTurnMemory s m ≡ Turns.spTurnMemory t m
+  pub spRow : (m : Memory) → SameOutcome (Rows.spRow s m) (Rows.spRow t m)
+  pub spRowBytes : (m : Memory) → Rows.spRowMemory s m ≡ Rows.spRowMemory t m
   pub dpTurn : (rdram dmem : List ℕ) → SameOutcome (Turns.dpTurn s rdram dmem) (Turns.dpTurn t rdram dmem)
   pub consumerTurn : SameOutcome (Turns.consumerTurn s) (Turns.consumerTurn t)
   pub run : (a b c : ℕ) (m : Memory) (out : List ℕ) → SameRun s t a b c m out

@@ -12,6 +12,7 @@ pub use engines::consumer_turn;
 pub use engines::dp_turn;
 pub use engines::look_ahead;
 pub use engines::run;
+pub use engines::sp_row;
 pub use engines::sp_turn;
 pub use player::replay;
 pub use player::verdict;

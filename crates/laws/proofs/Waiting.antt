@@ -19,6 +19,7 @@ use Rattle.sp.specs.Registers.{spWrite, spStatusWritten, spBreak}
 use Rattle.sp.specs.Transfer.{bankAdd, started, lengthWritten, nextWord, nextRow, ended}
 use Rattle.sp.specs.Turn.{spNext, spAfter}
 use Rattle.sp.specs.Left.{runningWords, transferWords, wordsLeft}
+use Rattle.sp.specs.Rows.{rowTurns}
 use Rattle.sp.specs.Sound.{SpSound}
 use Rattle.sp.proofs.Turn.{Case, idle, inRow, endOfRow, starts, ends, cases, after-add}
 use Rattle.sp.proofs.Kept.{next-kept}
@@ -33,12 +34,14 @@ use Rattle.machine.specs.Refusals.{isRegister, registerNumber, accessRefusal, s
 use Rattle.machine.specs.Calls.{readAt, writeAt, readRegister, writeRegister, tick, break, acknowledge}
 use Rattle.machine.specs.Turns.{spTurn, dpTurn, consumerTurn}
 use Rattle.machine.specs.Runs.{run}
+use Rattle.machine.specs.Rows.{spRow}
 use Rattle.machine.proofs.Sound.{facts, power-up-sound}
-use Rattle.machine.proofs.Kept.{either-way, read-kept, write-kept, tick-kept, break-kept, acknowledge-kept, sp-turn-kept, dp-turn-kept, consumer-turn-kept, run-kept}
+use Rattle.machine.proofs.Kept.{either-way, read-kept, write-kept, tick-kept, break-kept, acknowledge-kept, sp-turn-kept, sp-row-kept, dp-turn-kept, consumer-turn-kept, run-kept}
 use Rattle.machine.proofs.Refusals.{run-declined}
 use Rattle.machine.proofs.Runs.{sp-part}
+use Rattle.machine.proofs.Rows.{row-is-run}
 use Rattle.machine.proofs.Address.{in-block, mirrored, sixteen}
-use Rattle.laws.specs.Waiting.{Event, reads, writes, ticks, breaks, acknowledges, spTurnOver, dpTurnOver, consumerTurns, runOver, eventLeaves, traceLeaves, Written, noted, note, lastWritten, writtenBefore, Holds, isLength, lengthWrites, writesLength, movesOf, moves, begins, begun, SameTransfer, Starts, Before, BeginsOnce, TraceWritten}
+use Rattle.laws.specs.Waiting.{Event, reads, writes, ticks, breaks, acknowledges, spTurnOver, spRowOver, dpTurnOver, consumerTurns, runOver, eventLeaves, traceLeaves, Written, noted, note, lastWritten, writtenBefore, Holds, isLength, lengthWrites, writesLength, movesOf, moves, begins, begun, SameTransfer, Starts, Before, BeginsOnce, TraceWritten}
 
 -- ---- What a write does, by the register at its address
 
@@ -253,7 +256,7 @@ write-effect a v f s h = at (registerAt a) (record { leaves = write-leaves s a v
     at Misaligned p = short Misaligned refl p
     at Unmapped p = short Unmapped refl p
 
--- An SP turn or run leaves what its turns leave; declined, it takes none
+-- An SP turn, a row or a run leaves what its turns leave; declined, it takes none
 turn-leaves : (s : State) (m : Memory) → spRefusal s m ≡ 0 → spTurn s m .state .sp ≡ spNext (s .sp)
 unfolding spTurn
 turn-leaves s m e = rw e
@@ -277,6 +280,10 @@ run-moves s a b c m out = at (spRefusal s m) refl
         h .registers ∙ ap (λ (n : ℕ). spAfter n (s .sp)) (sym (h .count))
     at (suc n) z = rw (run-declined s a b c m out n z)
 
+-- A row is the run with its turns
+row-moves : (s : State) (m : Memory) → spRow s m .state .sp ≡ spAfter (spRow s m .answer .count) (s .sp)
+row-moves s m = rw (row-is-run s m [] .outcome) (run-moves s (rowTurns (s .sp)) 0 0 m [])
+
 effect : (e : Event) (s : State) → sound s ≡ true → Effect e s
 unfolding readRegister tick break acknowledge dpTurn consumerTurn
 effect (reads a) s h = still refl refl (quiet (accessRefusal s a) s (readAt (registerAt a) s) (read-still (registerAt a) s))
@@ -285,6 +292,7 @@ effect (ticks n) s h = still refl refl (quiet (stateRefusal s) s _ (nothing (s .
 effect breaks s h = still refl refl (quiet (stateRefusal s) s _ (others (s .sp) (spBreak (s .sp)) (search) refl refl))
 effect acknowledges s h = still refl refl (quiet (stateRefusal s) s _ (nothing (s .sp)))
 effect (spTurnOver m) s h = turned refl (turn-moves s m) (λ w. refl)
+effect (spRowOver m) s h = turned refl (row-moves s m) (λ w. refl)
 effect (dpTurnOver rdram dmem) s h = still refl refl (quiet (dpRefusal s rdram dmem) s _ (nothing (s .sp)))
 effect consumerTurns s h = still refl refl (quiet (stateRefusal s) s _ (nothing (s .sp)))
 effect (runOver a b c m out) s h = turned refl (run-moves s a b c m out) (λ w. refl)
@@ -297,6 +305,7 @@ event-kept (ticks n) s h = tick-kept s n h
 event-kept breaks s h = break-kept s h
 event-kept acknowledges s h = acknowledge-kept s h
 event-kept (spTurnOver m) s h = sp-turn-kept s m h
+event-kept (spRowOver m) s h = sp-row-kept s m h
 event-kept (dpTurnOver rdram dmem) s h = dp-turn-kept s rdram dmem h
 event-kept consumerTurns s h = consumer-turn-kept s h
 event-kept (runOver a b c m out) s h = run-kept s a b c m out h

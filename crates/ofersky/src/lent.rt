@@ -13,6 +13,7 @@ ghost use lib.Dec.{eqb};
 ghost use Rattle.words.specs.Memory.{memory};
 ghost use Rattle.machine.specs.Turns.{spTurn, spTurnMemory, dpTurn};
 ghost use Rattle.machine.specs.Runs.{endOfRun, run};
+ghost use Rattle.machine.specs.Rows.{spRow, spRowMemory};
 ghost use Rattle.machine.specs.Look.{look};
 ghost use Rattle.host.specs.States.{decoded, handed, ranHanded};
 ghost use Rattle.host.specs.Parts.{placed, partHanded};
@@ -29,6 +30,20 @@ pub extern "C" fn ofersky_sp_turn(
         ≡ spTurnMemory (decoded s) (memory (now (rdram .entry)) (now (dmem .entry)) (now (imem .entry))) ⌝ }
 {
     handed(s, engines::sp_turn(decoded(s), rdram, dmem, imem))
+}
+
+#[no_mangle]
+pub extern "C" fn ofersky_sp_row(
+    s: HostState,
+    rdram: &mut [u8],
+    dmem: &mut [u8],
+    imem: &mut [u8],
+) -> HostOutcome
+    ensures outcome { λ r. ⌜ r ≡ handed s (spRow (decoded s) (memory (now (rdram .entry)) (now (dmem .entry)) (now (imem .entry)))) ⌝ }
+    ensures bytes { λ _. ⌜ memory (now (rdram .exit)) (now (dmem .exit)) (now (imem .exit))
+        ≡ spRowMemory (decoded s) (memory (now (rdram .entry)) (now (dmem .entry)) (now (imem .entry))) ⌝ }
+{
+    handed(s, engines::sp_row(decoded(s), rdram, dmem, imem))
 }
 
 #[no_mangle]
