@@ -1,6 +1,6 @@
 /* Loads two words to the end of IMEM, where the second wraps to its start, while a list of three words is fetched, of which the last stays queued and is
- * consumed alone; then writes the load as a recording and replays it: as it is, with a wrong expectation, without the read, and with a bad address. Each
- * replay's verdict is shown.
+ * consumed alone; loads twelve rows, one at a time; then writes the first load as a recording and replays it: as it is, with a wrong expectation, without
+ * the read, and with a bad address. Each replay's verdict is shown.
  *
  *     rt staticlib ofersky
  *     cc -I c c/example.c target/staticlib/libofersky.a -o example && ./example
@@ -42,6 +42,20 @@ static void calls(void) {
     printf("consumed %016" PRIX64 ", DP line %u\n", turn.answer.value, turn.state.dp.line);
     s.sp.busy = 2; /* no flag: an unsound state */
     printf("refused by %u\n", ofersky_tick(s, 1).answer.number);
+}
+
+static void rows(void) {
+    ofersky_state s = written(ofersky_power_up(), 0x04040004, 0x1000); /* RAMADDR */
+    s = written(s, 0x04040008, 0x0200B03F); /* RDLEN: twelve rows of eight words, with 32 bytes skipped between them */
+    uint32_t number = 0, words = 0;
+    for (;;) {
+        ofersky_outcome row = ofersky_sp_row(s, rdram, sizeof rdram, dmem, sizeof dmem, imem, sizeof imem);
+        if (row.answer.count == 0) break; /* idle, or refused */
+        s = row.state;
+        words += row.answer.count;
+        if (number++ == 0) printf("a row of %u words, RAMADDR %08X\n", words, value_of(s, 0x04040004));
+    }
+    printf("%u rows, %u words, RAMADDR %08X\n", number, words, value_of(s, 0x04040004));
 }
 
 /* What a replay says of its recording. Only OFERSKY_PASSED is a pass. */
@@ -96,6 +110,7 @@ static void recording(void) {
 
 int main(void) {
     calls();
+    rows();
     recording();
     return 0;
 }

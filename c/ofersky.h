@@ -149,6 +149,12 @@ ofersky_outcome ofersky_acknowledge(ofersky_state s);
 ofersky_outcome ofersky_sp_turn(ofersky_state s, uint8_t *rdram, size_t rdram_bytes, uint8_t *dmem, size_t dmem_bytes, uint8_t *imem,
                                 size_t imem_bytes);
 
+/* Finishes the current row: LEN/8 + 1 SP turns in one call, or none if the engine is idle. Behind the last row a waiting transfer has started, and no word
+ * of it is moved. The value is 0, the count the number of words moved; those that read as zeros and those that are dropped count too.
+ * Refusals: 1, 2, 3, 4. */
+ofersky_outcome ofersky_sp_row(ofersky_state s, uint8_t *rdram, size_t rdram_bytes, uint8_t *dmem, size_t dmem_bytes, uint8_t *imem,
+                               size_t imem_bytes);
+
 /* One DP turn: fetches the word at CURRENT into the queue, if a list runs, FREEZE is off and fewer than 32 words are queued. The value is 0, the count 1
  * if it fetched. Refusals: 1, 2, 4. */
 ofersky_outcome ofersky_dp_turn(ofersky_state s, const uint8_t *rdram, size_t rdram_bytes, const uint8_t *dmem, size_t dmem_bytes);

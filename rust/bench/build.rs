@@ -5,6 +5,17 @@ use std::env;
 use std::path::{Path, PathBuf};
 use std::process::Command;
 
+/// The calls that are timed.
+const CALLS: [&str; 7] = [
+    "run",
+    "sp_turn",
+    "dp_turn",
+    "consumer_turn",
+    "read_register",
+    "write_register",
+    "replay",
+];
+
 fn main() {
     println!("cargo:rustc-check-cfg=cfg(before)");
     println!("cargo:rerun-if-env-changed=OFERSKY_BEFORE");
@@ -22,8 +33,7 @@ fn main() {
 
 fn rename(from: &Path, to: &Path) {
     let mut objcopy = Command::new("objcopy");
-    let turns = ["run", "sp_turn", "dp_turn"];
-    for call in turns.iter().chain(&["read_register", "write_register"]) {
+    for call in CALLS {
         objcopy.arg(format!("--redefine-sym=ofersky_{call}=before_{call}"));
         objcopy.arg(format!("--keep-global-symbol=before_{call}"));
     }

@@ -1,14 +1,15 @@
 //! The memory that every timed call works on, and what a call leaves in it.
 
-use crate::plain::{Bank, Machine, Ran};
+use crate::pages::{Page, Pages};
+use crate::plain::{Machine, Ran};
 use crate::random::Random;
 
-/// RDRAM, the banks and room for output. All three columns of a line use the same bytes.
+/// RDRAM, the banks and room for output. All columns of a line use the same bytes.
 #[derive(Clone, PartialEq)]
 pub struct Buffers {
-    pub rdram: Vec<u8>,
-    pub dmem: Box<Bank>,
-    pub imem: Box<Bank>,
+    pub rdram: Pages,
+    pub dmem: Box<Page>,
+    pub imem: Box<Page>,
     pub out: Vec<u8>,
 }
 
@@ -17,9 +18,9 @@ impl Buffers {
     pub fn new(rdram: usize, out: usize) -> Buffers {
         let mut random = Random::new();
         let mut buffers = Buffers {
-            rdram: vec![0; rdram],
-            dmem: Box::new([0; 4096]),
-            imem: Box::new([0; 4096]),
+            rdram: Pages::new(rdram),
+            dmem: Box::new(Page([0; 4096])),
+            imem: Box::new(Page([0; 4096])),
             out: vec![0xFF; out],
         };
         for bytes in [
@@ -148,12 +149,10 @@ fn dp_state(machine: &Machine) -> ofersky::DpState {
     }
 }
 
-/// Where a timed call begins: in plain Rust, in the library and in an earlier one.
+/// Where a timed call begins: in plain Rust and in a library.
 pub struct Start {
     pub machine: Machine,
     pub state: ofersky::State,
-    #[cfg(before)]
-    pub earlier: crate::before::State,
 }
 
 impl Start {
@@ -180,26 +179,6 @@ impl Start {
 
     fn of(machine: Machine, state: ofersky::State) -> Start {
         assert_eq!(state_of(&machine), state);
-        Start {
-            machine,
-            state,
-            #[cfg(before)]
-            earlier: state.into(),
-        }
-    }
-}
-
-/// What a call leaves that has consumed all words, without the ring, which an earlier library has not.
-#[cfg(before)]
-pub struct Drained<T>(pub T);
-
-#[cfg(before)]
-impl<T: Into<Left>> From<Drained<T>> for Left {
-    fn from(drained: Drained<T>) -> Left {
-        let mut left: Left = drained.0.into();
-        assert_eq!(left.state.dp.queued, 0);
-        left.state.dp.head = 0;
-        left.state.queue = Default::default();
-        left
+        Start { machine, state }
     }
 }

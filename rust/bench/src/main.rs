@@ -1,70 +1,95 @@
-//! How fast the library is, beside the same loop in plain Rust and beside a plain copy of as many bytes; and what runs, single turns and register calls took in
-//! an earlier library, if build.rs was told of one.
+//! How fast the library is, beside the same loop in plain Rust and beside a plain copy of as many bytes; the SP alone also beside a DMA loop as emulators have it;
+//! and what all this took in an earlier library, if build.rs was told of one.
 
 #[cfg(before)]
 mod before;
 mod buffers;
 mod cases;
+mod library;
+mod pages;
 mod plain;
 mod random;
 mod timing;
 
-use timing::Line;
+use timing::{Aim, Column, Line};
 
 fn main() {
-    println!("Nanoseconds a word (for turns and registers a call, for recordings a record): medians of interleaved rounds on this machine.");
-    println!("Plain Rust is the same loop, word by word, without checks of its input. Copy is copy_from_slice of as many bytes, for registers of a state.\n");
-    head("Ours | Plain Rust | Copy | Ours / plain Rust");
-    let mut worst = Worst::default();
-    cases::all(&mut |line| {
-        worst.see(&line);
-        show(line);
-    });
-    worst.show();
+    println!("Nanoseconds a word (for turns and registers a call, for recordings a record): the fastest of interleaved rounds on this machine.");
+    println!("Plain Rust is the same loop, turn by turn, without checks of its input. Copy is copy_from_slice of as many bytes, for registers of a state.");
+    println!("The DMA loop moves the rows of a transfer word by word, and does the registers once for each row.");
+    table(
+        &[Column::Ours, Column::Plain, Column::Dma, Column::Copy],
+        &[Column::Plain, Column::Dma, Column::Copy],
+        cases::sp_alone,
+    );
+    table(
+        &[Column::Ours, Column::Plain, Column::Copy],
+        &[Column::Plain],
+        cases::others,
+    );
     #[cfg(before)]
     {
-        println!("\nBefore is the library that OFERSKY_BEFORE names, which has no queue; for a fetch and a consumer turn, its DP turn.\n");
-        head("Ours | Before | Plain Rust | Ours / before");
-        cases::before_and_after(&mut show);
+        println!("\nBefore is the library that OFERSKY_BEFORE names; for sp_row, its run of as many words.");
+        table(
+            &[Column::Ours, Column::Before, Column::Plain],
+            &[Column::Before],
+            cases::before_and_after,
+        );
     }
 }
 
-fn head(columns: &str) {
-    println!("| What | Size | {columns} |");
-    println!("|---|--:|--:|--:|--:|--:|");
+/// Shows lines as they are measured, with what ours takes of some columns, and then what has become of the aims.
+fn table(columns: &[Column], ratios: &[Column], lines: fn(&mut dyn FnMut(Line))) {
+    head(columns, ratios);
+    let mut worst = Worst::default();
+    lines(&mut |line| {
+        worst.see(&line, ratios);
+        show(&line, ratios);
+    });
+    worst.show();
 }
 
-fn show(line: Line) {
-    let [ours, other, third] = line.times;
-    println!(
-        "| {} | {} | {ours:.2} | {other:.2} | {third:.3} | {:.2} |",
-        line.what,
-        line.size,
-        ours / other
-    );
+fn head(columns: &[Column], ratios: &[Column]) {
+    let titles = columns.iter().map(|column| title(column.name()));
+    let ratios = ratios.iter().map(|of| format!("Ours / {}", of.name()));
+    let titles: Vec<String> = titles.chain(ratios).collect();
+    println!("\n| What | Size | {} |", titles.join(" | "));
+    println!("|---|--:{}|", "|--:".repeat(titles.len()));
 }
 
-/// The greatest ratio of the lines that have an aim, by the aim's name.
+fn title(name: &str) -> String {
+    let (first, rest) = name.split_at(1);
+    first.to_uppercase() + rest
+}
+
+fn show(line: &Line, ratios: &[Column]) {
+    let times = line.times.iter().map(|(_, time)| format!("{time:.3}"));
+    let ratios = ratios.iter().map(|of| format!("{:.2}", line.ratio(*of)));
+    let cells: Vec<String> = times.chain(ratios).collect();
+    println!("| {} | {} | {} |", line.what, line.size, cells.join(" | "));
+}
+
+/// The greatest ratio of the lines that have an aim, by the aim's name and column.
 #[derive(Default)]
-struct Worst(Vec<(&'static str, f64, f64)>);
+struct Worst(Vec<(Aim, f64)>);
 
 impl Worst {
-    fn see(&mut self, line: &Line) {
-        let Some((name, aim)) = line.aim else {
-            return;
-        };
-        let ratio = line.times[0] / line.times[1];
-        match self.0.iter_mut().find(|worst| worst.0 == name) {
-            Some(worst) => worst.2 = worst.2.max(ratio),
-            None => self.0.push((name, aim, ratio)),
+    fn see(&mut self, line: &Line, ratios: &[Column]) {
+        for aim in line.aims.iter().filter(|aim| ratios.contains(&aim.of)) {
+            let ratio = line.ratio(aim.of);
+            match self.0.iter_mut().find(|(seen, _)| seen == aim) {
+                Some((_, worst)) => *worst = worst.max(ratio),
+                None => self.0.push((aim.clone(), ratio)),
+            }
         }
     }
 
     fn show(&self) {
         println!();
-        for (name, aim, ratio) in &self.0 {
-            let met = if ratio <= aim { "met" } else { "missed" };
-            println!("{name}: at most {ratio:.2} of plain Rust; the aim of {aim:.1} is {met}.");
+        for (Aim { name, of, most }, ratio) in &self.0 {
+            let of = of.name();
+            let met = if ratio <= most { "met" } else { "missed" };
+            println!("{name}: ours / {of} is at most {ratio:.2}; the aim of {most:.2} is {met}.");
         }
     }
 }

@@ -21,6 +21,8 @@ pub enum Call {
     Break,
     Acknowledge,
     SpTurn,
+    /// What is left of the current row.
+    SpRow,
     DpTurn,
     ConsumerTurn,
     /// The budgets of the SP, the DP and the consumer.
@@ -57,7 +59,7 @@ pub struct Case {
 }
 
 /// The names of the calls, in the order of `Call::index`.
-pub const NAMES: [&str; 16] = [
+pub const NAMES: [&str; 17] = [
     "power_up",
     "is_sound",
     "read_register",
@@ -66,6 +68,7 @@ pub const NAMES: [&str; 16] = [
     "sp_break",
     "acknowledge",
     "sp_turn",
+    "sp_row",
     "dp_turn",
     "consumer_turn",
     "run",
@@ -87,14 +90,15 @@ impl Call {
             Call::Break => 5,
             Call::Acknowledge => 6,
             Call::SpTurn => 7,
-            Call::DpTurn => 8,
-            Call::ConsumerTurn => 9,
-            Call::Run { .. } => 10,
-            Call::Look => 11,
-            Call::ReadRecord { .. } => 12,
-            Call::WriteRecord { .. } => 13,
-            Call::Replay { .. } => 14,
-            Call::Verdict { .. } => 15,
+            Call::SpRow => 8,
+            Call::DpTurn => 9,
+            Call::ConsumerTurn => 10,
+            Call::Run { .. } => 11,
+            Call::Look => 12,
+            Call::ReadRecord { .. } => 13,
+            Call::WriteRecord { .. } => 14,
+            Call::Replay { .. } => 15,
+            Call::Verdict { .. } => 16,
         }
     }
 
@@ -106,7 +110,12 @@ impl Call {
     pub fn takes_memory(&self) -> bool {
         matches!(
             self,
-            Call::SpTurn | Call::DpTurn | Call::Run { .. } | Call::Look | Call::Replay { .. }
+            Call::SpTurn
+                | Call::SpRow
+                | Call::DpTurn
+                | Call::Run { .. }
+                | Call::Look
+                | Call::Replay { .. }
         )
     }
 

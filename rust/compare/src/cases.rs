@@ -7,11 +7,11 @@ use crate::values::*;
 use ofersky::State;
 
 /// The kinds of call that act on a state, for `call_of`.
-pub const ON_A_STATE: usize = 11;
+pub const ON_A_STATE: usize = 12;
 
 /// The first of them that takes memory, and the run.
 pub const ON_MEMORY: usize = 7;
-pub const RUN: usize = 9;
+pub const RUN: usize = 10;
 
 /// A call of this kind, with arguments that suit the state.
 pub fn call_of(random: &mut Random, kind: usize, state: &State, rdram: usize) -> Call {
@@ -30,7 +30,8 @@ pub fn call_of(random: &mut Random, kind: usize, state: &State, rdram: usize) ->
         5 => Call::Acknowledge,
         6 => Call::ConsumerTurn,
         ON_MEMORY => Call::SpTurn,
-        8 => Call::DpTurn,
+        8 => Call::SpRow,
+        9 => Call::DpTurn,
         RUN => run_of(random, state),
         _ => Call::Look,
     }

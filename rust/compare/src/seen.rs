@@ -140,6 +140,7 @@ fn call_library(case: &Case, seen: &mut Seen, lent: [&mut [u8]; 4]) {
         Call::Break => seen.outcome = ofersky::sp_break(s),
         Call::Acknowledge => seen.outcome = ofersky::acknowledge(s),
         Call::SpTurn => seen.outcome = ofersky::sp_turn(s, rdram, dmem, imem),
+        Call::SpRow => seen.outcome = ofersky::sp_row(s, rdram, dmem, imem),
         Call::DpTurn => seen.outcome = ofersky::dp_turn(s, rdram, dmem),
         Call::ConsumerTurn => seen.outcome = ofersky::consumer_turn(s),
         Call::Run { budgets, .. } => {
@@ -179,6 +180,7 @@ pub fn model(case: &Case) -> Seen {
         Call::Break => seen.outcome = given(calls::sp_break(s)),
         Call::Acknowledge => seen.outcome = given(calls::acknowledge(s)),
         Call::SpTurn => seen.outcome = given(calls::sp_turn(s, rdram, dmem, imem)),
+        Call::SpRow => seen.outcome = given(calls::sp_row(s, rdram, dmem, imem)),
         Call::DpTurn => seen.outcome = given(calls::dp_turn(s, rdram, dmem)),
         Call::ConsumerTurn => seen.outcome = given(calls::consumer_turn(s)),
         Call::Run { budgets, .. } => {

@@ -5,10 +5,12 @@ use crate::ring::words;
 use model::machine::command_length;
 use ofersky::{Answer, State};
 
-/// A turn of the SP, the DP or the consumer; or one that is declined, because a bank is lent with a byte less.
+/// A turn of the SP, the DP or the consumer, or a row, which counts as the turns that it takes; or one that is declined, because a bank is lent with a
+/// byte less.
 #[derive(Clone, Copy, Debug, PartialEq, Eq)]
 pub enum Turn {
     Sp,
+    Row,
     Fetch,
     Consume,
     DeclinedSp,
@@ -17,7 +19,7 @@ pub enum Turn {
 
 impl Turn {
     pub fn is_sp(&self) -> bool {
-        matches!(self, Turn::Sp | Turn::DeclinedSp)
+        matches!(self, Turn::Sp | Turn::Row | Turn::DeclinedSp)
     }
 }
 
@@ -46,6 +48,7 @@ impl Series {
         let state = self.state;
         let (kind, outcome) = match turn {
             Turn::Sp => (0, ofersky::sp_turn(state, rdram, dmem, imem)),
+            Turn::Row => (0, ofersky::sp_row(state, rdram, dmem, imem)),
             Turn::DeclinedSp => (0, ofersky::sp_turn(state, rdram, dmem, &mut imem[1..])),
             Turn::Fetch => (1, ofersky::dp_turn(state, rdram, dmem)),
             Turn::DeclinedFetch => (1, ofersky::dp_turn(state, rdram, &dmem[1..])),
@@ -79,14 +82,18 @@ impl Series {
 pub fn any_turns(random: &mut Random, bursts: u64) -> Vec<Turn> {
     let mut turns = Vec::new();
     for _ in 0..random.below(bursts) {
-        let turn = match random.below(16) {
+        let turn = match random.below(17) {
             0 => Turn::DeclinedSp,
             1 => Turn::DeclinedFetch,
             2..=6 => Turn::Sp,
             7..=11 => Turn::Fetch,
+            12 => Turn::Row,
             _ => Turn::Consume,
         };
-        let most = random.pick(&[1, 1, 4, 40]);
+        let most = match turn {
+            Turn::Row => 2,
+            _ => random.pick(&[1, 1, 4, 40]),
+        };
         turns.extend(vec![turn; 1 + random.place(most)]);
     }
     turns

@@ -2,7 +2,7 @@
 
 use crate::call::{Call, Case};
 use crate::seen::Seen;
-use crate::totals::grouped;
+use crate::tally::Tally;
 use crate::values::first_copy;
 use model::machine::DP_STATUS;
 use ofersky::DpState;
@@ -196,11 +196,14 @@ const SIGHTS: &[Sight] = &[
 
 /// How often each was seen.
 #[derive(Clone, Copy, Debug)]
-pub struct Sights([u64; SIGHTS.len()]);
+pub struct Sights {
+    pub tally: Tally<{ SIGHTS.len() }>,
+}
 
 impl Default for Sights {
     fn default() -> Sights {
-        Sights([0; SIGHTS.len()])
+        let tally = Tally::of(std::array::from_fn(|i| SIGHTS[i].0));
+        Sights { tally }
     }
 }
 
@@ -216,30 +219,6 @@ impl Sights {
             after: &seen.outcome.state.dp,
             seen,
         };
-        for (count, (_, sight)) in self.0.iter_mut().zip(SIGHTS) {
-            *count += u64::from(sight(&look));
-        }
-    }
-
-    pub fn add(&mut self, other: &Sights) {
-        for (mine, others) in self.0.iter_mut().zip(other.0) {
-            *mine += others;
-        }
-    }
-
-    /// Each of them by name and how often it was seen.
-    pub fn line(&self) -> String {
-        let parts: Vec<String> = SIGHTS
-            .iter()
-            .zip(self.0)
-            .map(|((name, _), seen)| format!("{name} {}", grouped(seen)))
-            .collect();
-        parts.join(", ")
-    }
-
-    /// Each was seen at least so often.
-    pub fn expect(&self, least: u64) {
-        let enough = self.0.iter().all(|seen| *seen >= least);
-        assert!(enough, "less than {least}: {}", self.line());
+        self.tally.see(|i| SIGHTS[i].1(&look));
     }
 }

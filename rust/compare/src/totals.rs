@@ -3,6 +3,7 @@
 use crate::call::{Call, Case, NAMES};
 use crate::events::{Event, Events};
 use crate::records::pieces;
+use crate::rows::Rows;
 use crate::runs::Runs;
 use crate::seen::Seen;
 use crate::sights::Sights;
@@ -39,6 +40,7 @@ pub struct Totals {
     pub verdicts: [[u64; CODES.len()]; NAMES.len()],
     pub findings: Found,
     pub runs: Runs,
+    pub rows: Rows,
     pub sights: Sights,
     pub events: Events,
 }
@@ -94,6 +96,7 @@ impl Totals {
             .filter(|address| first_copy(*address) != *address);
         self.mirrors[call] += mirrors.count() as u64;
         self.runs.count(case, seen);
+        self.rows.count(case, seen);
         self.sights.count(case, seen);
         if call == REPLAY || call == VERDICT {
             let verdict = CODES.iter().position(|(code, _)| *code == seen.code);
@@ -127,7 +130,8 @@ impl Totals {
         );
         self.findings.add(&other.findings);
         self.runs.add(&other.runs);
-        self.sights.add(&other.sights);
+        self.rows.add(&other.rows);
+        self.sights.tally.add(&other.sights.tally);
         self.events.add(&other.events);
     }
 

@@ -194,11 +194,20 @@ impl Watch {
 
     fn sp_run(&mut self, budget: u32) {
         self.budget(budget);
-        self.events.see_if(self.state.sp.busy == 0, Event::IdleRun);
+        let before = self.state.sp;
+        self.events.see_if(before.busy == 0, Event::IdleRun);
         let moved = self.rounds([budget, 0, 0]).moved;
-        let idle = self.state.sp.busy == 0;
-        self.events.see_if(idle && moved > 0, Event::IdleStop);
-        self.events.see_if(!idle, Event::BudgetStop);
+        let after = self.state.sp;
+        let (idle, acted) = (after.busy == 0, moved > 0);
+        let events = &mut self.events;
+        events.see_if(idle && acted, Event::IdleStop);
+        events.see_if(!idle, Event::BudgetStop);
+        events.see_if(acted && before.len < before.row, Event::RowBegunWithin);
+        let within = !idle && after.len < after.row;
+        events.see_if(acted && within, Event::RowEndedWithin);
+        let two_rows = before.len / 8 + before.row / 8 + 2;
+        let several = before.count > 1 && moved > two_rows;
+        events.see_if(several, Event::SeveralRows);
     }
 
     /// The consumer has the same budget as the DP.
@@ -253,6 +262,9 @@ impl Watch {
         };
         events.see_if(done.moved < done.fetched, Event::SpEndedFirst);
         events.see_if(done.moved > done.fetched, Event::DpEndedFirst);
+        // The others take turns in as many rounds at most.
+        let others = done.fetched + done.words.len() as u32;
+        events.see_if(done.moved > others + 1, Event::SpAlone);
         let shares = shares(&from_model(&before), self.rdram.len());
         let decided = (&sp_first.0, &sp_first.1) != (&self.state, &done.words);
         events.see_if(!shares, Event::OtherBytes);

@@ -25,8 +25,10 @@ fn done(test: &str, totals: &Totals) {
     assert_eq!(totals.runs.unforeseen, 0);
     if let Some(all) = ALL.add(totals) {
         println!("all single calls: {}", all.calls_line());
-        println!("their queues: {}", all.sights.line());
-        all.sights.expect(25);
+        println!("their queues: {}", all.sights.tally.line());
+        println!("their rows: {}", all.rows.calls.line());
+        all.rows.calls.expect(25);
+        all.sights.tally.expect(25);
         assert!(all.compared >= 200_000);
     }
 }
@@ -245,9 +247,12 @@ fn unsound_states() {
     for call in ["read_register", "write_register", "tick", "sp_break"] {
         comparison.totals.expect_numbers(call, &[4], 1_000);
     }
-    for call in ["acknowledge", "sp_turn", "dp_turn", "consumer_turn", "run"] {
+    for call in ["acknowledge", "sp_turn", "sp_row", "dp_turn", "run"] {
         comparison.totals.expect_numbers(call, &[4], 1_000);
     }
+    comparison
+        .totals
+        .expect_numbers("consumer_turn", &[4], 1_000);
     done("unsound states", &comparison.totals);
 }
 
@@ -300,7 +305,7 @@ fn soundness_and_odd_lengths() {
     changed_fields(&mut comparison, &mut random);
     huge_memory(&mut comparison, &mut random);
     let totals = &comparison.totals;
-    for call in ["sp_turn", "run"] {
+    for call in ["sp_turn", "sp_row", "run"] {
         totals.expect_numbers(call, &[0, 1, 2, 3, 4], 200);
     }
     totals.expect_numbers("dp_turn", &[0, 1, 2, 4], 200);

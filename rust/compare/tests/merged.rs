@@ -1,4 +1,5 @@
-//! Runs of the SP, the DP and the consumer, by the library and by the model: any, every small one, and the library against its own single turns.
+//! Runs of the SP, the DP and the consumer, by the library and by the model: any, every small one, those in which the SP acts alone, and the library against
+//! its own single turns.
 //! And series of such turns: what the order does to them.
 
 use compare::call::{Call, Case};
@@ -6,6 +7,7 @@ use compare::cases::{good_lengths, odd_lengths, run_of};
 use compare::comparison::Comparison;
 use compare::memory::Lent;
 use compare::random::Random;
+use compare::rows::{busy, wait, Edges, BANK_WORDS};
 use compare::runs::{by_single_turns, shares};
 use compare::seen::library_with_ring;
 use compare::series::{
@@ -13,10 +15,11 @@ use compare::series::{
 };
 use compare::states::{both_busy, break_clause, sound, BREAKS};
 use compare::totals::{Sum, Totals};
-use ofersky::State;
+use compare::values::sp_left;
+use ofersky::{SpState, State};
 
-/// What the four tests compared.
-static ALL: Sum = Sum::of_tests(4);
+/// What the six tests compared.
+static ALL: Sum = Sum::of_tests(6);
 
 /// Prints the lines of a test, and after the last one those of all.
 fn done(test: &str, totals: &Totals) {
@@ -116,6 +119,196 @@ fn runs_of_single_turns() {
     done("runs of single turns", &comparison.totals);
 }
 
+/// A run against the model, and against single turns of the library with the ring slot by slot.
+struct Sides([Comparison; 2]);
+
+impl Sides {
+    fn new() -> Sides {
+        Sides([
+            Comparison::new("call"),
+            Comparison::of(by_single_turns, library_with_ring, "call"),
+        ])
+    }
+
+    fn check(&mut self, case: &Case) {
+        self.0.iter_mut().for_each(|side| {
+            side.check(case);
+        });
+    }
+
+    fn done(&self, test: &str, least: u64) {
+        let totals = &self.0[0].totals;
+        println!("{test}, the SP's rows: {}", totals.rows.runs.line());
+        totals.rows.runs.expect(least);
+        done(test, totals);
+    }
+}
+
+/// A way in which the SP comes to act alone, at the outset or after some rounds: the words of the list and those queued, FREEZE, the budgets of the DP and
+/// the consumer, and the length of the output.
+type Way = (u32, u8, u8, [u32; 2], usize);
+
+const WAYS: [Way; 10] = [
+    // No list and nothing queued; no budgets; FREEZE; a full queue without room, and one without a budget.
+    (0, 0, 0, [u32::MAX, u32::MAX], 64),
+    (40, 5, 0, [0, 0], 64),
+    (40, 5, 1, [u32::MAX, u32::MAX], 64),
+    (40, 32, 0, [u32::MAX, u32::MAX], 7),
+    (40, 32, 0, [u32::MAX, 0], 64),
+    // A short list that is consumed, and one that stays queued; words queued before.
+    (3, 0, 0, [u32::MAX, u32::MAX], 64),
+    (3, 0, 0, [u32::MAX, 0], 64),
+    (0, 2, 0, [0, u32::MAX], 64),
+    // A full queue that lets one word in, after one was consumed: then the budget or the room is used.
+    (40, 32, 0, [u32::MAX, 1], 64),
+    (40, 32, 0, [u32::MAX, u32::MAX], 15),
+];
+
+/// A run of this engine with this budget. The list stands in the memory that the SP writes, at the third of its words, so that it is fetched before them.
+fn beside(way: Way, sp: SpState, budget: u32) -> (State, Call) {
+    let (list, queued, freeze, [fetch, consume], out) = way;
+    let mut state = four_words_each(0, sp.storing == 0, queued);
+    state.sp = sp;
+    state.dp.freeze = freeze;
+    let third = match sp.storing {
+        0 => sp.spaddr % 0x1000 + 0x10,
+        _ => sp.ramaddr + 0x10,
+    };
+    // A list does not go round at the top of RDRAM.
+    state.dp.current = if third < 0xFF_0000 { third } else { 0 };
+    state.dp.limit = state.dp.current + 8 * list;
+    let budgets = [budget, fetch, consume];
+    (state, Call::Run { budgets, out })
+}
+
+/// The budgets that end within a row, with it, some words after it, with the next row and with all that is left, or beside these.
+fn sp_budgets(sp: &SpState) -> Vec<u32> {
+    let (words, row) = (sp.len / 8 + 1, sp.row / 8 + 1);
+    let state = State {
+        sp: *sp,
+        ..State::default()
+    };
+    let left = sp_left(&state) as u32;
+    // Of a long row, those about its parts and its edges.
+    let parts = [2, 3, 4].map(|part| words / part);
+    let ends = [&[1, 8, 16, 64, 128, words * 2 / 3, words], &parts[..]].concat();
+    let mut budgets: Vec<u32> = match words {
+        1..=64 => (0..=words + 3).collect(),
+        _ => ends.iter().flat_map(|end| end - 1..=end + 1).collect(),
+    };
+    budgets.extend([words + row - 1, words + row, words + row + 1]);
+    budgets.extend([left - 1, left, left + 1, u32::MAX]);
+    budgets
+}
+
+/// None, and each with the others: the bank, the top of RDRAM and the lent length, in two orders where there is room for them.
+fn some_edges(words: u32) -> Vec<Edges> {
+    let inside = |word: u32| Some(word).filter(|word| (1..words).contains(word));
+    let mut all = Vec::new();
+    for bank in [None, inside(words / 2), inside(words / 4)] {
+        for top in [None, inside(words / 3)] {
+            for length in [None, inside(words * 2 / 3)] {
+                let edges = Edges { bank, top, length };
+                if edges.are_small() && !all.contains(&edges) {
+                    all.push(edges);
+                }
+            }
+        }
+    }
+    all
+}
+
+/// What comes after a row: more rows, or a transfer that waits, in either direction; or nothing.
+const ENDS: [(u32, Option<u8>); 4] = [(0, None), (0, Some(0)), (2, None), (1, Some(1))];
+
+/// Rows of these lengths, whole and half moved, at the edges, in both directions and banks.
+fn rows_for_runs() -> Vec<(SpState, usize)> {
+    let mut rows = Vec::new();
+    for row in [1, 2, 8, 15, 16, 17, 64, BANK_WORDS] {
+        for moved in [0, row / 2] {
+            let words = row - moved;
+            for edges in some_edges(words) {
+                for (i, (count, waiting)) in ENDS.into_iter().enumerate() {
+                    for storing in [0, 1] {
+                        let mut sp = busy(words, moved, count, storing);
+                        sp.spaddr = u32::from(storing ^ i as u8 & 1) << 12;
+                        wait(&mut sp, waiting);
+                        let rdram = edges.place(&mut sp, words);
+                        rows.push((sp, rdram));
+                    }
+                }
+            }
+        }
+    }
+    rows
+}
+
+/// With the longest RDRAM, and with one that is three words shorter: both wrap at the top after the fourth word. These are few, because each takes long.
+fn longest_rdram(sides: &mut Sides) {
+    for (budget, length) in [(3, 4), (5, 4), (u32::MAX, 4), (5, 1), (u32::MAX, 1)] {
+        let edges = Edges {
+            bank: Some(6),
+            top: Some(4),
+            length: Some(length),
+        };
+        for storing in [0, 1] {
+            let mut sp = busy(16, 0, 1, storing);
+            let rdram = edges.place(&mut sp, 16);
+            let (state, call) = beside(WAYS[0], sp, budget);
+            let lent = Lent::new(rdram, 5);
+            sides.check(&Case { state, lent, call });
+        }
+    }
+}
+
+/// Every budget about a row's end, in each of the ways in turn.
+#[test]
+fn runs_of_the_sp_alone() {
+    let mut sides = Sides::new();
+    let mut ways = WAYS.into_iter().cycle();
+    for (sp, rdram) in rows_for_runs() {
+        for (budget, way) in sp_budgets(&sp).into_iter().zip(&mut ways) {
+            let (state, call) = beside(way, sp, budget);
+            let lent = Lent::new(rdram, 1 + u64::from(sp.ramaddr / 8 + sp.spaddr));
+            sides.check(&Case { state, lent, call });
+        }
+    }
+    longest_rdram(&mut sides);
+    sides.done("runs of the SP alone", 100);
+}
+
+/// Any rows, at edges in any order.
+#[test]
+fn any_runs_of_the_sp_alone() {
+    let mut random = Random::of_test(76);
+    let mut sides = Sides::new();
+    for _ in 0..4_000 {
+        let most = random.pick(&[4, 20, 20, 200, 512]);
+        let words = 1 + random.below(most) as u32;
+        let edge = |random: &mut Random| {
+            let word = random.below(u64::from(words) + 4) as u32;
+            Some(word).filter(|word| (1..words).contains(word))
+        };
+        let [bank, top, length] = [(); 3].map(|_| edge(&mut random));
+        let length = length.filter(|length| top < Some(*length));
+        let moved = random.below(u64::from(BANK_WORDS - words) + 1) as u32;
+        let moved = moved.min(random.pick(&[0, 0, 9, 512]));
+        let mut sp = busy(words, moved, random.below(3) as u32, random.flag());
+        sp.spaddr = random.word() & 0x1000;
+        let waiting = random.pick(&[None, None, Some(0), Some(1)]);
+        wait(&mut sp, waiting);
+        let mut rdram = Edges { bank, top, length }.place(&mut sp, words);
+        if random.once_in(8) {
+            rdram = 0;
+        }
+        let budget = random.pick(&sp_budgets(&sp));
+        let (state, call) = beside(random.pick(&WAYS), sp, budget);
+        let lent = Lent::new(rdram, 1 + random.below(1 << 16));
+        sides.check(&Case { state, lent, call });
+    }
+    sides.done("any runs of the SP alone", 20);
+}
+
 /// Every number in its order, also where a budget is 0; the words that would be consumed, and the memories, stay as they were.
 #[test]
 fn refused_runs() {
@@ -161,6 +354,8 @@ struct Orders {
     /// Words that were queued at the outset were consumed.
     queued: u64,
     declined: u64,
+    /// Rows that moved words were among the turns.
+    rows: u64,
 }
 
 impl Orders {
@@ -168,6 +363,13 @@ impl Orders {
     fn expect(&self, least: u64, counts: &[u64]) {
         assert!(counts.iter().all(|seen| *seen >= least), "{self:?}");
     }
+}
+
+/// Did a row among the turns move words?
+fn rows_moved(turns: &[Turn], series: &Series) -> bool {
+    let sp_turns = turns.iter().filter(|turn| turn.is_sp());
+    let mut answers = sp_turns.zip(&series.answers[0]);
+    answers.any(|(turn, answer)| *turn == Turn::Row && answer.count > 0)
 }
 
 /// A state for a series: both engines have words left, but no list is longer than a series can fetch.
@@ -200,10 +402,12 @@ fn sp_turns_moved_to_the_front() {
         orders.undrained += u64::from(!series.is_drained() && consumed > 0);
         orders.queued += u64::from(consumed > 0 && state.dp.queued > 0);
         orders.declined += u64::from(turns.contains(&Turn::DeclinedSp));
+        orders.rows += u64::from(!shares && consumed > 0 && rows_moved(&turns, &series));
     }
     println!("series with the SP's turns moved to the front: {orders:?}");
     orders.expect(300, &[orders.apart, orders.shared, orders.decided]);
     orders.expect(300, &[orders.undrained, orders.queued, orders.declined]);
+    orders.expect(100, &[orders.rows]);
 }
 
 /// These SP turns with any others between them, and then turns until nothing is left to fetch or consume.
@@ -269,14 +473,18 @@ impl Pair {
     fn as_a_run(&self, words: &[u64]) -> Series {
         let [mut rdram, mut dmem, mut imem] = self.lent.bytes();
         let mut out = vec![0; 8 * words.len()];
-        let taken = self.sp_turns.iter().filter(|turn| **turn == Turn::Sp);
-        let (sp, all) = (taken.count() as u32, u32::MAX);
+        let answers = self.series[0].answers.clone();
+        let taken = self.sp_turns.iter().zip(&answers[0]);
+        let taken = taken.map(|(turn, answer)| match turn {
+            Turn::Sp => 1,
+            _ => answer.count,
+        });
+        let (sp, all) = (taken.sum(), u32::MAX);
         let (r, d, i) = (&mut rdram, &mut dmem, &mut imem);
         let ran = ofersky::run(self.state, sp, all, all, r, d, i, &mut out);
         let expected: Vec<u8> = words.iter().flat_map(|word| word.to_be_bytes()).collect();
         assert!(out == expected && ran.words as usize == words.len());
         // A run has one count for all its SP turns.
-        let answers = self.series[0].answers.clone();
         let moved: u32 = answers[0].iter().map(|answer| answer.count).sum();
         assert_eq!(ran.outcome.answer.count, moved);
         Series {
@@ -310,9 +518,10 @@ fn drained_series() {
         orders.sync_before += u64::from(!shares && sync_before);
         orders.queued += u64::from(!shares && state.dp.queued > 0);
         orders.declined += u64::from(!shares && declined);
+        orders.rows += u64::from(!shares && rows_moved(&pair.sp_turns, one));
     }
     println!("drained series: {orders:?}");
     orders.expect(150, &[orders.apart, orders.shared, orders.decided]);
     orders.expect(150, &[orders.sync_before, orders.queued, orders.declined]);
-    orders.expect(100, &[orders.decided_pipe]);
+    orders.expect(100, &[orders.decided_pipe, orders.rows]);
 }

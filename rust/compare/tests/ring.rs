@@ -55,9 +55,10 @@ fn calls_in_other_slots() {
         }
     }
     let totals = &comparison.totals;
-    for call in ["consumer_turn", "dp_turn", "run", "write_register", "tick"] {
+    for call in ["consumer_turn", "dp_turn", "sp_row", "run", "tick"] {
         totals.expect_numbers(call, &[0, 4], 200);
     }
+    totals.expect_numbers("write_register", &[0, 4], 200);
     assert_eq!(totals.runs.unforeseen, 0);
     println!("in other slots: {}", totals.calls_line());
 }
@@ -107,7 +108,8 @@ fn single_call(random: &mut Random) -> Case {
             value: random.word() & !0x10 | 0x20,
         },
         _ => {
-            let kind = 1 + random.place(ON_MEMORY);
+            // Up to the SP turn and the row, which are the first two on memory.
+            let kind = 1 + random.place(ON_MEMORY + 1);
             call_of(random, kind, &state, lent.rdram)
         }
     };

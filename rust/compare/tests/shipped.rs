@@ -10,7 +10,7 @@ const BANK: usize = 4_096;
 
 /// The verdict of each recording, counted in its listing: the `R` and `L` lines, and those with `expected`. The index and the place are those of the
 /// first record with such a line.
-const VERDICTS: [(&str, Verdict); 41] = [
+const VERDICTS: [(&str, Verdict); 42] = [
     ("bank_wrap", passed(13)),
     ("double_buffer", passed(16)),
     ("empty", Verdict::NothingCompared),
@@ -46,6 +46,7 @@ const VERDICTS: [(&str, Verdict); 41] = [
     ("refused_register", refused(5, 2, 0)),
     ("refused_unaligned", refused(6, 1, 0)),
     ("refused_zero_kind", refused(7, 2, 0)),
+    ("row_pieces", passed(21)),
     ("sync_full", passed(11)),
     ("texture_load", passed(17)),
     ("texture_store", passed(15)),

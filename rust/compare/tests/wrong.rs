@@ -8,6 +8,7 @@ use compare::items::{any_item, buffer_length, place_for};
 use compare::memory::{filled, Lent};
 use compare::random::Random;
 use compare::records::pieces;
+use compare::rows::row_words;
 use compare::seen::{model, sp_first, Seen};
 use compare::states::{both_busy, sound};
 use compare::traffic::Traffic;
@@ -183,6 +184,40 @@ fn bit_6_by_words_left(case: &Case) -> Seen {
     seen
 }
 
+/// A row as long as it was at its start, however much of it is moved already.
+fn row_from_its_start(case: &Case) -> Seen {
+    let seen = model(case);
+    if seen.number() != 0 || seen.outcome.answer.count == 0 {
+        return seen;
+    }
+    let mut case = case.clone();
+    case.state.sp.len = case.state.sp.row;
+    model(&case)
+}
+
+/// A row that stores nothing where a word of it is past the lent length.
+fn drops_the_whole_row(case: &Case) -> Seen {
+    let mut seen = model(case);
+    let sp = &case.state.sp;
+    let end = sp.ramaddr as usize + 8 * row_words(&case.state) as usize;
+    if sp.storing == 1 && end > case.lent.rdram {
+        [seen.bytes[0], ..] = case.lent.bytes();
+    }
+    seen
+}
+
+/// A run that moves the rest of a row at once, whatever budget is left.
+fn block_past_the_budget(case: &Case) -> Seen {
+    let mut case = case.clone();
+    let words = row_words(&case.state);
+    if let Call::Run { budgets, .. } = &mut case.call {
+        if budgets[0] > 0 {
+            budgets[0] = budgets[0].max(words);
+        }
+    }
+    model(&case)
+}
+
 /// The words that were consumed given as the SP's count, and the reverse.
 fn counts_exchanged(case: &Case) -> Seen {
     let mut seen = model(case);
@@ -273,6 +308,20 @@ fn sp_turn(random: &mut Random) -> Case {
     }
 }
 
+fn sp_row(random: &mut Random) -> Case {
+    let lent = Lent::new(random.pick(&[16, 64, 4_096]), 1 + random.below(1_000));
+    let (state, call) = (sound(random, lent.rdram), Call::SpRow);
+    Case { state, lent, call }
+}
+
+/// A run with a small budget for the SP.
+fn short_run(random: &mut Random) -> Case {
+    let mut case = run(random);
+    let budgets = [1 + random.below(4) as u32, 0, 0];
+    case.call = Call::Run { budgets, out: 0 };
+    case
+}
+
 fn write_record(random: &mut Random) -> Case {
     let item = any_item(random);
     let buffer = filled(buffer_length(random), random.below(1_000));
@@ -294,8 +343,8 @@ fn shown_recording(report: &str) -> Vec<u8> {
     (0..hex.len() / 2).map(byte).collect()
 }
 
-/// The reports of these twelve, and of five that are wrong about the queue, with the panic's own message kept off the screen.
-fn reports() -> ([String; 12], [String; 5]) {
+/// The reports of these twelve, of five that are wrong about the queue and of three about rows, with the panic's own message kept off the screen.
+fn reports() -> ([String; 12], [String; 5], [String; 3]) {
     let hook = take_hook();
     set_hook(Box::new(|_| {}));
     let reports = [
@@ -319,16 +368,21 @@ fn reports() -> ([String; 12], [String; 5]) {
         reported(clears_a_slot_and_declines, "call", bad_read),
         reported(bit_6_by_words_left, "call", dp_status),
     ];
+    let rows = [
+        reported(row_from_its_start, "call", sp_row),
+        reported(drops_the_whole_row, "call", sp_row),
+        reported(block_past_the_budget, "call", short_run),
+    ];
     set_hook(hook);
-    for report in reports.iter().chain(&queues) {
+    for report in reports.iter().chain(&queues).chain(&rows) {
         println!("{report}");
     }
-    (reports, queues)
+    (reports, queues, rows)
 }
 
 #[test]
 fn wrong_sides_are_found() {
-    let (reports, queues) = reports();
+    let (reports, queues, rows) = reports();
     let [skip, line_end, framing, declined, room, next_byte, place, number, found, pass, order, counts] =
         reports;
 
@@ -362,11 +416,26 @@ fn wrong_sides_are_found() {
     judged_struct_is_found(&pass);
     wrong_runs_are_found(&order, &counts);
     wrong_queues_are_found(&queues);
+    wrong_rows_are_found(&rows);
 }
 
 /// A run as reports show it.
 fn shown_run([sp, dp, consumer]: [u32; 3], out: usize) -> String {
     format!("run, SP budget 0x{sp:X}, DP budget 0x{dp:X}, consumer budget 0x{consumer:X}, output of {out} bytes\n")
+}
+
+/// Each by two words of a row: one is moved already, one is past the lent length, and one is past the budget.
+fn wrong_rows_are_found([start, whole, block]: &[String; 3]) {
+    assert!(start.contains("sp_row\nstate: sp.row 0x8, sp.busy 0x1\n"));
+    assert!(start.contains("\n  count: expected 0x1 by the model, given 0x2 by the library"));
+
+    assert!(whole.contains("sp.len 0x8, sp.row 0x8, sp.busy 0x1, sp.storing 0x1\n"));
+    assert!(whole.contains("memory: RDRAM 8 bytes, "));
+    assert!(whole.contains("differs:\n  RDRAM at 0x0: expected "));
+
+    assert!(block.contains(&shown_run([1, 0, 0], 0)));
+    assert!(block.contains("sp.len 0x8, sp.row 0x8, sp.busy 0x1\n"));
+    assert!(block.contains("\n  count: expected 0x1 by the model, given 0x2 by the library"));
 }
 
 /// Each by the least that shows it. A word taken early from a full queue lets the DP fetch before the SP's second turn.

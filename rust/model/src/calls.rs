@@ -429,6 +429,16 @@ pub fn sp_turn(state: &State, rdram: &mut [u8], dmem: &mut [u8], imem: &mut [u8]
     outcome(state, done)
 }
 
+/// Finishes the current SP row. The count is the number of its words that were
+/// left, or 0 if the engine was idle.
+pub fn sp_row(state: &State, rdram: &mut [u8], dmem: &mut [u8], imem: &mut [u8]) -> Outcome {
+    let done = with_all(state, rdram, dmem, imem).map(|mut machine| {
+        let count = machine.sp_row();
+        (state_of(state, &machine), 0, count)
+    });
+    outcome(state, done)
+}
+
 /// One DP turn: a fetch into the queue. The count is 1 if it fetched a word.
 pub fn dp_turn(state: &State, rdram: &[u8], dmem: &[u8]) -> Outcome {
     let done = without_imem(state, rdram, dmem).map(|mut machine| {

@@ -281,6 +281,28 @@ impl Sp {
         }
     }
 
+    /// The registers after the current row, of which this many words were left. SKIP
+    /// leads to the next row and does not follow the last one; behind that, a waiting
+    /// transfer starts.
+    fn after_row(&self, words: u32) -> Sp {
+        let skip = if self.count > 0 { self.skip } else { 0 };
+        let offset = (self.spaddr + 8 * words) % BANK_BYTES;
+        let mut next = Sp {
+            spaddr: self.spaddr & IMEM_BIT | offset,
+            ramaddr: (self.ramaddr + 8 * words + skip) % SPAN_24,
+            ..self.clone()
+        };
+        match (self.count, self.full) {
+            (0, false) => (next.len, next.busy) = (LENGTH_BITS, false),
+            (0, true) => {
+                next.full = false;
+                next.start(self.waiting_word, self.waiting_stores);
+            }
+            (count, _) => (next.count, next.len) = (count - 1, self.row),
+        }
+        next
+    }
+
     fn read_status(&self) -> u32 {
         let mut status = u32::from(self.halted)
             | u32::from(self.broke) << 1
@@ -579,14 +601,29 @@ impl<M: DerefMut<Target = [u8]>> Machine<M> {
         if !self.sp.busy {
             return 0;
         }
-        self.move_word();
+        self.move_word(self.sp.ramaddr, self.sp.spaddr % BANK_BYTES);
         self.sp.after_word();
         1
     }
 
-    /// Moves the word that the SP registers point at.
-    fn move_word(&mut self) {
-        let offset = self.sp.spaddr % BANK_BYTES;
+    /// What is left of the current row, by the paper's formula for its words. Gives
+    /// their number, 0 if the engine was idle. Words past the lent length count too.
+    pub fn sp_row(&mut self) -> u32 {
+        if !self.sp.busy {
+            return 0;
+        }
+        let (base, start) = (self.sp.ramaddr, self.sp.spaddr);
+        let words = self.sp.len / 8 + 1;
+        for c in 0..words {
+            self.move_word((base + 8 * c) % SPAN_24, (start + 8 * c) % BANK_BYTES);
+        }
+        self.sp = self.sp.after_row(words);
+        words
+    }
+
+    /// Moves a word between this RDRAM address and this offset in the bank that the
+    /// transfer uses.
+    fn move_word(&mut self, address: u32, offset: u32) {
         let bank = if self.sp.spaddr & IMEM_BIT != 0 {
             &mut self.imem
         } else {
@@ -594,9 +631,9 @@ impl<M: DerefMut<Target = [u8]>> Machine<M> {
         };
         if self.sp.stores {
             let word = load_word(bank, offset);
-            store_word(&mut self.rdram, self.sp.ramaddr, word);
+            store_word(&mut self.rdram, address, word);
         } else {
-            let word = load_word(&self.rdram, self.sp.ramaddr);
+            let word = load_word(&self.rdram, address);
             store_word(bank, offset, word);
         }
     }

@@ -787,6 +787,8 @@ fn every_call_on_a_sound_state_leaves_a_sound_one() {
         assert_eq!(bench.sp_turn(), success(0, state.sp.busy.into()));
         assert_eq!(bench.run_sp(value % 64).number, 0);
         bench.state = state.clone();
+        assert_eq!(bench.sp_row().number, 0);
+        bench.state = state.clone();
         let runs = state.dp.current < state.dp.limit && state.dp.freeze == 0;
         let fetches = runs && state.queue.len() < 32;
         assert_eq!(bench.dp_turn(), success(0, u32::from(fetches)));

@@ -274,6 +274,29 @@ pub fn sp_turn(state: State, rdram: &mut [u8], dmem: &mut [u8], imem: &mut [u8])
     unsafe { raw::ofersky_sp_turn(state, r.0, r.1, d.0, d.1, i.0, i.1) }
 }
 
+/// Finishes the current row: LEN/8 + 1 SP turns in one call, or none if the engine is idle. Behind the last row a waiting transfer
+/// has started, and no word of it is moved. The value is 0, the count the number of words moved; those that read as zeros and those
+/// that are dropped count too. Refusals: 1, 2, 3, 4.
+///
+/// ```
+/// let (mut rdram, mut dmem, mut imem) = ([1; 0x28], [2; 4096], [0; 4096]);
+/// // RDLEN: two rows of two words, and 16 bytes are skipped between them. One word is moved alone.
+/// let started = ofersky::write_register(ofersky::power_up(), 0x0404_0008, 0x0100_100F).state;
+/// let state = ofersky::sp_turn(started, &mut rdram, &mut dmem, &mut imem).state;
+/// let mut row = |state| ofersky::sp_row(state, &mut rdram, &mut dmem, &mut imem);
+/// let first = row(state);
+/// assert_eq!((first.answer.count, first.state.sp.ramaddr), (1, 0x20));
+/// let second = row(first.state);
+/// assert_eq!((second.answer.count, second.state.sp.busy), (2, 0));
+/// assert_eq!(row(second.state).answer.count, 0);
+/// // RDRAM ends before the last word of the second row.
+/// assert_eq!(dmem[..0x28], [[1; 8], [1; 8], [1; 8], [0; 8], [2; 8]].concat());
+/// ```
+pub fn sp_row(state: State, rdram: &mut [u8], dmem: &mut [u8], imem: &mut [u8]) -> Outcome {
+    let [r, d, i] = [rdram, dmem, imem].map(lent);
+    unsafe { raw::ofersky_sp_row(state, r.0, r.1, d.0, d.1, i.0, i.1) }
+}
+
 /// One DP turn: fetches the word at CURRENT into the queue, if a list runs, FREEZE is off and fewer than 32 words are queued.
 /// The value is 0, the count 1 if it fetched. Refusals: 1, 2, 4.
 pub fn dp_turn(state: State, rdram: &[u8], dmem: &[u8]) -> Outcome {

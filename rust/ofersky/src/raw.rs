@@ -19,6 +19,15 @@ extern "C" {
         imem: *mut u8,
         imem_bytes: usize,
     ) -> Outcome;
+    pub fn ofersky_sp_row(
+        s: State,
+        rdram: *mut u8,
+        rdram_bytes: usize,
+        dmem: *mut u8,
+        dmem_bytes: usize,
+        imem: *mut u8,
+        imem_bytes: usize,
+    ) -> Outcome;
     pub fn ofersky_dp_turn(
         s: State,
         rdram: *const u8,

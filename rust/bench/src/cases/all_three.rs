@@ -2,12 +2,11 @@
 
 use super::dp::{fill_list, Commands};
 use super::sp::Shape;
-#[cfg(before)]
-use super::Earlier;
-use super::{run, Words, END, RDRAM, START};
+use super::{run, Words, END, NO_SLOWER, RDRAM, START};
 use crate::buffers::{Buffers, Start};
+use crate::library::Library;
 use crate::plain::Ran;
-use crate::timing::Line;
+use crate::timing::{Aim, Column, Line};
 use std::hint::black_box;
 
 /// Where lists stand in RDRAM, above the transfers.
@@ -49,8 +48,8 @@ impl Words for Both {
         2 * self.each
     }
 
-    fn ours(&self, b: &mut Buffers) -> ofersky::Ran {
-        run(self.start.state, [u32::MAX; 3], b)
+    fn called(&self, library: &Library, b: &mut Buffers) -> ofersky::Ran {
+        run(library, self.start.state, [u32::MAX; 3], b)
     }
 
     fn plain(&self, b: &mut Buffers) -> Ran {
@@ -70,15 +69,9 @@ impl Words for Both {
         b.out[..bytes].copy_from_slice(&b.rdram[LIST..][..bytes]);
     }
 
-    fn aim(&self) -> Option<(&'static str, f64)> {
-        Some(("All three", 3.0))
-    }
-}
-
-#[cfg(before)]
-impl Earlier for Both {
-    fn before(&self, b: &mut Buffers) -> crate::before::Ran {
-        crate::before::run(self.start.earlier, [u32::MAX; 2], b)
+    fn aims(&self) -> Vec<Aim> {
+        let aim = |of, most| Aim::new("All three", of, most);
+        vec![aim(Column::Plain, 3.0), aim(Column::Before, NO_SLOWER)]
     }
 }
 

@@ -1,13 +1,12 @@
 //! Runs that fetch and consume whole lists.
 
-#[cfg(before)]
-use super::Earlier;
-use super::{run, Words, DP_STATUS, END, RDRAM, START};
+use super::{run, Words, DP_STATUS, END, NO_SLOWER, RDRAM, START};
 use crate::buffers::{Buffers, Start};
+use crate::library::Library;
 use crate::plain::dp::{Rest, LENGTHS};
 use crate::plain::Ran;
 use crate::random::Random;
-use crate::timing::Line;
+use crate::timing::{Aim, Column, Line};
 use std::hint::black_box;
 
 /// Where lists stand in RDRAM.
@@ -112,11 +111,11 @@ impl Words for Lists {
         self.words * self.lists.len()
     }
 
-    fn ours(&self, b: &mut Buffers) -> ofersky::Ran {
+    fn called(&self, library: &Library, b: &mut Buffers) -> ofersky::Ran {
         let mut done = ofersky::Ran::default();
         let mut words = 0;
         for list in &self.lists {
-            done = run(list.start.state, [0, u32::MAX, u32::MAX], b);
+            done = run(library, list.start.state, [0, u32::MAX, u32::MAX], b);
             words += done.words;
         }
         done.words = words;
@@ -142,23 +141,9 @@ impl Words for Lists {
         }
     }
 
-    fn aim(&self) -> Option<(&'static str, f64)> {
-        Some(("Fetch and consume", 3.0))
-    }
-}
-
-#[cfg(before)]
-impl Earlier for Lists {
-    fn before(&self, b: &mut Buffers) -> crate::before::Ran {
-        let mut words = 0;
-        let mut last = None;
-        for list in &self.lists {
-            let done = crate::before::run(list.start.earlier, [0, u32::MAX], b);
-            words += done.words;
-            last = Some(done);
-        }
-        let done = last.expect("a list");
-        crate::before::Ran { words, ..done }
+    fn aims(&self) -> Vec<Aim> {
+        let aim = |of, most| Aim::new("Fetch and consume", of, most);
+        vec![aim(Column::Plain, 3.0), aim(Column::Before, NO_SLOWER)]
     }
 }
 

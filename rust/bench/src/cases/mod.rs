@@ -8,9 +8,12 @@ mod sp;
 mod turns;
 mod writing;
 
+#[cfg(before)]
+use crate::before::BEFORE;
 use crate::buffers::{Buffers, Left};
+use crate::library::{Library, OURS};
 use crate::plain::Ran;
-use crate::timing::{measure, Line};
+use crate::timing::{measure, Aim, Column, Line, Way};
 use ofersky::State;
 use std::hint::black_box;
 
@@ -26,9 +29,16 @@ const END: u32 = 0x0410_0004;
 const CURRENT: u32 = 0x0410_0008;
 const DP_STATUS: u32 = 0x0410_000C;
 
-/// Every line of the table, as it is measured.
-pub fn all(show: &mut dyn FnMut(Line)) {
+/// What ours may take of the time before where it is to be no slower. One library in both places comes to 1.04, if nothing disturbs all rounds of a line.
+const NO_SLOWER: f64 = 1.05;
+
+/// The lines of the SP alone, as they are measured.
+pub fn sp_alone(show: &mut dyn FnMut(Line)) {
     sp::all(show);
+}
+
+/// All other lines.
+pub fn others(show: &mut dyn FnMut(Line)) {
     dp::all(show);
     all_three::all(show);
     turns::all(show);
@@ -37,7 +47,7 @@ pub fn all(show: &mut dyn FnMut(Line)) {
     writing::all(show);
 }
 
-/// The lines of runs, turns and registers, beside an earlier library.
+/// The lines of all but writing, beside an earlier library.
 #[cfg(before)]
 pub fn before_and_after(show: &mut dyn FnMut(Line)) {
     sp::before_and_after(show);
@@ -45,62 +55,54 @@ pub fn before_and_after(show: &mut dyn FnMut(Line)) {
     all_three::before_and_after(show);
     turns::before_and_after(show);
     registers::before_and_after(show);
+    replays::before_and_after(show);
 }
 
 /// Words that are moved, fetched or consumed, in every way that is timed.
 trait Words {
-    /// What a call of the library gives.
+    /// What a call of a library gives.
     type Given: Into<Left>;
 
     fn name(&self) -> &str;
     fn words(&self) -> usize;
-    fn ours(&self, buffers: &mut Buffers) -> Self::Given;
+    fn called(&self, library: &Library, buffers: &mut Buffers) -> Self::Given;
     fn plain(&self, buffers: &mut Buffers) -> Ran;
     fn copy(&self, buffers: &mut Buffers);
 
-    /// What ours may take of plain Rust, if that is said.
-    fn aim(&self) -> Option<(&'static str, f64)> {
-        None
+    /// What ours may take, where that is said.
+    fn aims(&self) -> Vec<Aim> {
+        Vec::new()
+    }
+
+    fn line(&self, buffers: &mut Buffers, ways: Vec<Way>) -> Line {
+        Line {
+            aims: self.aims(),
+            ..measure(self.name(), self.words(), buffers, ways)
+        }
     }
 
     fn beside_plain(&self, buffers: &mut Buffers) -> Line {
-        let line = measure(
-            self.name(),
-            self.words(),
-            buffers,
-            |b| self.ours(b),
-            |b| self.plain(b),
-            |b| self.copy(b),
-        );
-        Line {
-            aim: self.aim(),
-            ..line
-        }
+        let ways = vec![
+            Way::compared(Column::Ours, |b| self.called(black_box(&OURS), b)),
+            Way::compared(Column::Plain, |b| self.plain(b)),
+            Way::timed(Column::Copy, |b| self.copy(b)),
+        ];
+        self.line(buffers, ways)
     }
-}
 
-/// What an earlier library can do, too.
-#[cfg(before)]
-trait Earlier: Words {
-    /// By its calls.
-    fn before(&self, buffers: &mut Buffers) -> crate::before::Ran;
-
+    #[cfg(before)]
     fn beside_before(&self, buffers: &mut Buffers) -> Line {
-        measure(
-            self.name(),
-            self.words(),
-            buffers,
-            |b| crate::buffers::Drained(self.ours(b)),
-            |b| self.before(b),
-            |b| self.plain(b),
-        )
+        let ways = vec![
+            Way::compared(Column::Ours, |b| self.called(black_box(&OURS), b)),
+            Way::compared(Column::Before, |b| self.called(black_box(&BEFORE), b)),
+            Way::compared(Column::Plain, |b| self.plain(b)),
+        ];
+        self.line(buffers, ways)
     }
 }
 
-/// The run of the library over these buffers, as the processor cannot foresee it.
-fn run(state: State, budgets: [u32; 3], b: &mut Buffers) -> ofersky::Ran {
-    let (state, [sp, dp, consumer]) = black_box((state, budgets));
-    let (dmem, imem) = (&mut b.dmem[..], &mut b.imem[..]);
-    let rdram = &mut b.rdram;
-    ofersky::run(state, sp, dp, consumer, rdram, dmem, imem, &mut b.out)
+/// The run of a library over these buffers, as the processor cannot foresee it.
+fn run(library: &Library, state: State, budgets: [u32; 3], b: &mut Buffers) -> ofersky::Ran {
+    let (state, budgets) = black_box((state, budgets));
+    library.run(state, budgets, b)
 }

@@ -1,9 +1,8 @@
 //! Register reads and writes, each a call of its own. Most of such a call is the state that goes in and comes back.
 
-#[cfg(before)]
-use super::Earlier;
 use super::{Words, CURRENT, DP_STATUS, END, RAMADDR, RDLEN, SPADDR, SP_STATUS, START};
 use crate::buffers::{Buffers, Start};
+use crate::library::Library;
 use crate::plain::{Machine, Ran};
 use crate::timing::Line;
 use ofersky::{Outcome, State};
@@ -38,12 +37,12 @@ impl Registers {
         Registers { writing, start }
     }
 
-    fn call(&self, i: usize, state: State) -> Outcome {
+    fn call(&self, library: &Library, i: usize, state: State) -> Outcome {
         let i = black_box(i) % 8;
         if self.writing {
-            ofersky::write_register(state, WRITES[i].0, WRITES[i].1)
+            (library.write_register)(state, WRITES[i].0, WRITES[i].1)
         } else {
-            ofersky::read_register(state, READS[i])
+            (library.read_register)(state, READS[i])
         }
     }
 
@@ -71,10 +70,10 @@ impl Words for Registers {
         CALLS
     }
 
-    fn ours(&self, _: &mut Buffers) -> Outcome {
-        let mut done = self.call(0, self.start.state);
+    fn called(&self, library: &Library, _: &mut Buffers) -> Outcome {
+        let mut done = self.call(library, 0, self.start.state);
         for i in 1..CALLS {
-            done = self.call(i, done.state);
+            done = self.call(library, i, done.state);
             black_box(done.answer.value);
         }
         done
@@ -95,27 +94,6 @@ impl Words for Registers {
             state = *black_box(&state);
         }
         black_box(state);
-    }
-}
-
-#[cfg(before)]
-impl Earlier for Registers {
-    fn before(&self, _: &mut Buffers) -> crate::before::Ran {
-        use crate::before::{read_register, write_register, Ran};
-        let call = |i: usize, state| {
-            let i = black_box(i) % 8;
-            if self.writing {
-                write_register(state, WRITES[i].0, WRITES[i].1)
-            } else {
-                read_register(state, READS[i])
-            }
-        };
-        let mut outcome = call(0, self.start.earlier);
-        for i in 1..CALLS {
-            outcome = call(i, outcome.state);
-            black_box(outcome.answer.value);
-        }
-        Ran { outcome, words: 0 }
     }
 }
 

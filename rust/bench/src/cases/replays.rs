@@ -1,11 +1,12 @@
 //! Whole replays. The cost of a record must not grow with the recording.
 
-use super::{CURRENT, DP_STATUS, END, RAMADDR, RDLEN, SPADDR, SP_STATUS, START, WRLEN};
+use super::{Words, CURRENT, DP_STATUS, END, RAMADDR, RDLEN, SPADDR, SP_STATUS, START, WRLEN};
 use crate::buffers::Buffers;
+use crate::library::Library;
 use crate::plain::replay::Lent;
 use crate::plain::{Machine, Ran};
 use crate::random::Random;
-use crate::timing::{measure, Line};
+use crate::timing::Line;
 
 const RDRAM: usize = 32_768;
 
@@ -131,34 +132,62 @@ pub fn recording(groups: usize, runs: Runs) -> (Vec<u8>, usize) {
     (recorder.bytes, recorder.records)
 }
 
-pub fn all(show: &mut dyn FnMut(Line)) {
-    for (groups, runs) in GROUPS {
-        let (bytes, records) = recording(groups, runs);
-        show(replayed(&bytes, records, runs));
+/// A recording that is about to be replayed.
+struct Replay {
+    name: String,
+    bytes: Vec<u8>,
+    records: usize,
+}
+
+impl Words for Replay {
+    type Given = ofersky::Replayed;
+
+    fn name(&self) -> &str {
+        &self.name
+    }
+
+    fn words(&self) -> usize {
+        self.records
+    }
+
+    fn called(&self, library: &Library, b: &mut Buffers) -> ofersky::Replayed {
+        library.replay(ofersky::power_up(), &self.bytes, b)
+    }
+
+    fn plain(&self, b: &mut Buffers) -> Ran {
+        let lent = Lent {
+            rdram: &mut b.rdram,
+            dmem: &mut b.dmem,
+            imem: &mut b.imem,
+            words: &mut [0; 2048],
+        };
+        let mut machine = Machine::default();
+        let count = machine.replay(&self.bytes, lent, &mut b.out);
+        Ran::counted(machine, count)
+    }
+
+    fn copy(&self, b: &mut Buffers) {
+        b.out[..self.bytes.len()].copy_from_slice(&self.bytes);
     }
 }
 
-fn replayed(recording: &[u8], records: usize, runs: Runs) -> Line {
-    measure(
-        format!("replay of {} bytes{}", recording.len(), runs.name()),
-        records,
-        &mut Buffers::new(RDRAM, ofersky::LISTING_BYTES),
-        |b| {
-            let (dmem, imem) = (&mut b.dmem[..], &mut b.imem[..]);
-            let state = ofersky::power_up();
-            ofersky::replay(state, recording, &mut b.rdram, dmem, imem, &mut b.out)
-        },
-        |b| {
-            let lent = Lent {
-                rdram: &mut b.rdram,
-                dmem: &mut b.dmem,
-                imem: &mut b.imem,
-                words: &mut [0; 2048],
-            };
-            let mut machine = Machine::default();
-            let count = machine.replay(recording, lent, &mut b.out);
-            Ran::counted(machine, count)
-        },
-        |b| b.out[..recording.len()].copy_from_slice(recording),
-    )
+fn each(mut time: impl FnMut(&mut Buffers, &Replay)) {
+    for (groups, runs) in GROUPS {
+        let (bytes, records) = recording(groups, runs);
+        let replay = Replay {
+            name: format!("replay of {} bytes{}", bytes.len(), runs.name()),
+            bytes,
+            records,
+        };
+        time(&mut Buffers::new(RDRAM, ofersky::LISTING_BYTES), &replay);
+    }
+}
+
+pub fn all(show: &mut dyn FnMut(Line)) {
+    each(|buffers, replay| show(replay.beside_plain(buffers)));
+}
+
+#[cfg(before)]
+pub fn before_and_after(show: &mut dyn FnMut(Line)) {
+    each(|buffers, replay| show(replay.beside_before(buffers)));
 }

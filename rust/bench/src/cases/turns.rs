@@ -1,12 +1,11 @@
 //! Single turns, each a call of its own. Their cost must not grow with RDRAM.
 
 use super::dp::{fill_list, Commands};
-#[cfg(before)]
-use super::Earlier;
-use super::{Words, END, RAMADDR, RDLEN, SPADDR, START};
+use super::{Words, END, NO_SLOWER, RAMADDR, RDLEN, SPADDR, START};
 use crate::buffers::{Buffers, Start};
+use crate::library::Library;
 use crate::plain::{Machine, Ran, SLOTS};
-use crate::timing::Line;
+use crate::timing::{Aim, Column, Line};
 use ofersky::{Outcome, State};
 use std::hint::black_box;
 
@@ -21,7 +20,7 @@ enum Kind {
     Sp,
     Fetch,
     Consume,
-    /// A fetch and then a consumer turn: together what a DP turn was before there was a queue.
+    /// A fetch and then a consumer turn.
     FetchAndConsume,
 }
 
@@ -64,8 +63,8 @@ impl Turns {
         Turns { name, kind, starts }
     }
 
-    /// By the calls of the library; their counts are added up.
-    fn called(&self, turn: impl Fn(State, &mut Buffers) -> Outcome, b: &mut Buffers) -> Outcome {
+    /// By the calls of a library; their counts are added up.
+    fn taken(&self, turn: impl Fn(State, &mut Buffers) -> Outcome, b: &mut Buffers) -> Outcome {
         let mut done = Outcome::default();
         let mut count = 0;
         for start in &self.starts {
@@ -94,14 +93,6 @@ impl Turns {
     }
 }
 
-fn sp_turn(s: State, b: &mut Buffers) -> Outcome {
-    ofersky::sp_turn(s, &mut b.rdram, &mut b.dmem[..], &mut b.imem[..])
-}
-
-fn fetch(s: State, b: &mut Buffers) -> Outcome {
-    ofersky::dp_turn(s, &b.rdram, &b.dmem[..])
-}
-
 fn plain_fetch(m: &mut Machine, b: &mut Buffers) -> u32 {
     m.dp.fetch(&mut m.queue, &b.rdram, &b.dmem) as u32
 }
@@ -123,14 +114,15 @@ impl Words for Turns {
         TURNS
     }
 
-    fn ours(&self, b: &mut Buffers) -> Outcome {
+    fn called(&self, library: &Library, b: &mut Buffers) -> Outcome {
         match self.kind {
-            Kind::Sp => self.called(sp_turn, b),
-            Kind::Fetch => self.called(fetch, b),
-            Kind::Consume => self.called(|s, _| ofersky::consumer_turn(s), b),
-            Kind::FetchAndConsume => {
-                self.called(|s, b| ofersky::consumer_turn(fetch(s, b).state), b)
-            }
+            Kind::Sp => self.taken(|s, b| library.sp_turn(s, b), b),
+            Kind::Fetch => self.taken(|s, b| library.dp_turn(s, b), b),
+            Kind::Consume => self.taken(|s, _| (library.consumer_turn)(s), b),
+            Kind::FetchAndConsume => self.taken(
+                |s, b| (library.consumer_turn)(library.dp_turn(s, b).state),
+                b,
+            ),
         }
     }
 
@@ -159,55 +151,34 @@ impl Words for Turns {
             }
         }
     }
+
+    fn aims(&self) -> Vec<Aim> {
+        vec![Aim::new(self.kind.name(), Column::Before, NO_SLOWER)]
+    }
 }
 
-#[cfg(before)]
-impl Earlier for Turns {
-    fn before(&self, b: &mut Buffers) -> crate::before::Ran {
-        let turn = match self.kind {
-            Kind::Sp => crate::before::sp_turn,
-            Kind::FetchAndConsume => |s, b: &mut Buffers| crate::before::dp_turn(s, b),
-            _ => panic!("{} are new", self.kind.name()),
+/// Turns of every kind in RDRAM of every size; consumer turns take no memory.
+fn each(mut time: impl FnMut(&mut Buffers, &Turns)) {
+    for kind in [Kind::Sp, Kind::Fetch, Kind::Consume, Kind::FetchAndConsume] {
+        let sizes = if kind == Kind::Consume {
+            1
+        } else {
+            SIZES.len()
         };
-        let mut state = self.starts[0].earlier;
-        let mut count = 0;
-        loop {
-            let mut outcome = turn(state, b);
-            count += outcome.answer.count;
-            black_box(outcome.answer.value);
-            if count as usize == TURNS {
-                outcome.answer.count = count;
-                return crate::before::Ran { outcome, words: 0 };
-            }
-            state = outcome.state;
+        for (rdram, name) in SIZES.into_iter().take(sizes) {
+            let mut buffers = Buffers::new(rdram, 0);
+            fill_list(&mut buffers.rdram[..8 * TURNS], Commands::Mixed);
+            let turns = Turns::new(kind, name, &buffers);
+            time(&mut buffers, &turns);
         }
     }
 }
 
-/// Turns of a kind in RDRAM of every size; consumer turns take no memory.
-fn each(kind: Kind, mut time: impl FnMut(&mut Buffers, &Turns)) {
-    let sizes = if kind == Kind::Consume {
-        1
-    } else {
-        SIZES.len()
-    };
-    for (rdram, name) in SIZES.into_iter().take(sizes) {
-        let mut buffers = Buffers::new(rdram, 0);
-        fill_list(&mut buffers.rdram[..8 * TURNS], Commands::Mixed);
-        let turns = Turns::new(kind, name, &buffers);
-        time(&mut buffers, &turns);
-    }
-}
-
 pub fn all(show: &mut dyn FnMut(Line)) {
-    for kind in [Kind::Sp, Kind::Fetch, Kind::Consume, Kind::FetchAndConsume] {
-        each(kind, |buffers, turns| show(turns.beside_plain(buffers)));
-    }
+    each(|buffers, turns| show(turns.beside_plain(buffers)));
 }
 
 #[cfg(before)]
 pub fn before_and_after(show: &mut dyn FnMut(Line)) {
-    for kind in [Kind::Sp, Kind::FetchAndConsume] {
-        each(kind, |buffers, turns| show(turns.beside_before(buffers)));
-    }
+    each(|buffers, turns| show(turns.beside_before(buffers)));
 }

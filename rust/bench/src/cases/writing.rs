@@ -3,7 +3,7 @@
 use super::replays::{recording, Runs, GROUPS};
 use crate::buffers::Buffers;
 use crate::plain::writing::write;
-use crate::timing::{measure, Line};
+use crate::timing::{measure, Column, Line, Way};
 use ofersky::Record;
 
 pub fn all(show: &mut dyn FnMut(Line)) {
@@ -26,24 +26,27 @@ fn records(recording: &[u8]) -> Vec<Record> {
 }
 
 fn written(recording: &[u8], records: &[Record], runs: Runs) -> Line {
-    measure(
-        format!("writing of {} bytes{}", recording.len(), runs.name()),
-        records.len(),
-        &mut Buffers::new(0, recording.len()),
-        |b| {
-            let mut place = 0;
-            for item in records {
-                place = ofersky::write_record(*item, &mut b.out, place).value as usize;
-            }
-            place
-        },
-        |b| {
-            let mut place = 0;
-            for item in records {
-                place = write(item.kind, item.address, item.value, &mut b.out, place);
-            }
-            place
-        },
-        |b| b.out.copy_from_slice(recording),
-    )
+    let ours = |b: &mut Buffers| {
+        let mut place = 0;
+        for item in records {
+            place = ofersky::write_record(*item, &mut b.out, place).value as usize;
+        }
+        place
+    };
+    let plain = |b: &mut Buffers| {
+        let mut place = 0;
+        for item in records {
+            place = write(item.kind, item.address, item.value, &mut b.out, place);
+        }
+        place
+    };
+    let copy = |b: &mut Buffers| b.out.copy_from_slice(recording);
+    let ways = vec![
+        Way::compared(Column::Ours, ours),
+        Way::compared(Column::Plain, plain),
+        Way::timed(Column::Copy, copy),
+    ];
+    let name = format!("writing of {} bytes{}", recording.len(), runs.name());
+    let mut buffers = Buffers::new(0, recording.len());
+    measure(name, records.len(), &mut buffers, ways)
 }

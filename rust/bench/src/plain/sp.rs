@@ -76,12 +76,10 @@ impl Sp {
             return 0;
         }
         let bank = if self.spaddr < 0x1000 { dmem } else { imem };
-        let offset = (self.spaddr & 0xFF8) as usize;
-        let ram = self.ramaddr as usize;
         if self.storing {
-            words::store(rdram, ram, words::load(bank, offset));
+            store(bank, self.spaddr, rdram, self.ramaddr);
         } else {
-            words::store(bank, offset, words::load(rdram, ram));
+            load(bank, self.spaddr, rdram, self.ramaddr);
         }
         self.step();
         1
@@ -98,4 +96,69 @@ impl Sp {
         *self = sp;
         count
     }
+
+    /// The words left of the row.
+    fn row_words(&self) -> u32 {
+        if self.busy {
+            self.len / 8 + 1
+        } else {
+            0
+        }
+    }
+
+    /// Turns until the row is finished; gives the words moved.
+    pub fn row(&mut self, rdram: &mut [u8], dmem: &mut Bank, imem: &mut Bank) -> u32 {
+        self.run(self.row_words(), rdram, dmem, imem)
+    }
+
+    /// The rest of the row as an emulator's DMA moves it: word by word, with the offset cut to the bank and a test of the RDRAM address, and the registers only at
+    /// the end. Gives the words moved.
+    #[inline]
+    pub fn dma_row(&mut self, rdram: &mut [u8], dmem: &mut Bank, imem: &mut Bank) -> u32 {
+        let words = self.row_words();
+        if words == 0 {
+            return 0;
+        }
+        let bank = if self.spaddr < 0x1000 { dmem } else { imem };
+        let (spaddr, ramaddr) = (self.spaddr, self.ramaddr);
+        let places = (0..8 * words)
+            .step_by(8)
+            .map(|at| (spaddr + at, (ramaddr + at) & 0xFF_FFFF));
+        if self.storing {
+            places.for_each(|(offset, ram)| store(bank, offset, rdram, ram));
+        } else {
+            places.for_each(|(offset, ram)| load(bank, offset, rdram, ram));
+        }
+        let last = 8 * (words - 1);
+        self.spaddr = spaddr & 0x1000 | (spaddr + last) & 0xFFF;
+        self.ramaddr = (ramaddr + last) & 0xFF_FFFF;
+        self.len = 0;
+        self.step();
+        words
+    }
+
+    /// Row by row until the engine is idle, in the same way; gives the words moved.
+    pub fn dma(&mut self, rdram: &mut [u8], dmem: &mut Bank, imem: &mut Bank) -> u32 {
+        let mut sp = *self;
+        let mut count = 0;
+        while sp.busy {
+            count += sp.dma_row(rdram, dmem, imem);
+        }
+        *self = sp;
+        count
+    }
+}
+
+/// Moves a word into RDRAM.
+#[inline]
+fn store(bank: &Bank, spaddr: u32, rdram: &mut [u8], ramaddr: u32) {
+    let word = words::load(bank, (spaddr & 0xFF8) as usize);
+    words::store(rdram, ramaddr as usize, word);
+}
+
+/// Moves a word into the bank.
+#[inline]
+fn load(bank: &mut Bank, spaddr: u32, rdram: &[u8], ramaddr: u32) {
+    let word = words::load(rdram, ramaddr as usize);
+    words::store(bank, (spaddr & 0xFF8) as usize, word);
 }

@@ -175,6 +175,12 @@ impl Bench {
         }
     }
 
+    pub fn sp_row(&mut self) -> Answer {
+        let (rdram, dmem, imem) = (&mut self.rdram, &mut self.dmem, &mut self.imem);
+        let outcome = sp_row(&self.state, rdram, dmem, imem);
+        self.answered(outcome)
+    }
+
     /// A run with the budgets of the SP, the DP and the consumer. Gives the SP's
     /// answer and the consumer's words.
     pub fn run(&mut self, budgets: [u32; 3], out: &mut [u8]) -> (Answer, u32) {
@@ -398,9 +404,11 @@ pub fn expect_numbers(bench: &Bench, all: u32, without_imem: u32) {
     let (rdram, dmem, imem) = (&mut tried.rdram, &mut tried.dmem, &mut tried.imem);
     let mut out = [0x55; 32];
     let turned = sp_turn(&bench.state, rdram, dmem, imem);
+    let rowed = sp_row(&bench.state, rdram, dmem, imem);
     let ran = run(&bench.state, 4, 4, 4, rdram, dmem, imem, &mut out);
     let outcomes = [
         (turned, all),
+        (rowed, all),
         (ran.outcome, all),
         (dp_turn(&bench.state, rdram, dmem), without_imem),
     ];
