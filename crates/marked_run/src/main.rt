@@ -139,7 +139,7 @@ fn m3(s: State, rdram: &mut [u8], dmem: &mut [u8], imem: &mut [u8]) {
 // A run of the SP with the largest budget; shows its count.
 fn whole_run(s: State, rdram: &mut [u8], dmem: &mut [u8], imem: &mut [u8]) -> State {
     let mut none = [0u8; 8];
-    let ran = engines::run(s, 0xFFFFFFFF, 0, 0, rdram, dmem, imem, &mut none);
+    let ran = runs::run(s, 0xFFFFFFFF, 0, 0, rdram, dmem, imem, &mut none);
     let o = ran.outcome;
     let answer = o.answer;
     show(answer.count as u64);

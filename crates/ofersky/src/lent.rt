@@ -72,7 +72,7 @@ pub extern "C" fn ofersky_run(
     ensures output { λ _. ⌜ now (out .exit)
         ≡ endOfRun (decoded s) spbudget dpbudget consumerbudget (memory (now (rdram .entry)) (now (dmem .entry)) (now (imem .entry))) (now (out .entry)) .out ⌝ }
 {
-    let ran = engines::run(
+    let ran = runs::run(
         decoded(s),
         spbudget,
         dpbudget,

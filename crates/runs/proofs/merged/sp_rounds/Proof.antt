@@ -7,11 +7,11 @@ use borrow.Author.Needs.{needs}
 use Rattle.words.specs.Memory.{memory}
 use Rattle.dp.specs.Tried.{mayFetch, mayConsume}
 use Rattle.machine.specs.Runs.{left, merged}
-use Rattle.engines.specs.Standing.{standing, cutTo, endFrom}
-use Rattle.engines.proofs.Rounds.{round-of, sp-round-of, less, sp-lives}
-use Rattle.engines.proofs.Alone.{within, within-count, Between, entered, sp-again, all-again, moves-one, ahead-rest, ahead-less}
-use Rattle.engines.proofs.merged.sp_rounds.Statement.{statement}
-use Rattle.engines.proofs.merged.sp_rounds.Tie as tie
+use Rattle.runs.specs.Standing.{standing, cutTo, endFrom}
+use Rattle.runs.proofs.Rounds.{round-of, sp-round-of, less, sp-lives}
+use Rattle.runs.proofs.Alone.{within, within-count, Between, entered, sp-again, all-again, moves-one, ahead-rest, ahead-less}
+use Rattle.runs.proofs.merged.sp_rounds.Statement.{statement}
+use Rattle.runs.proofs.merged.sp_rounds.Tie as tie
 
 abbrev Inv-loop2 : tie.InvT-loop2
 Inv-loop2 sp₀ dp₀ spbudget dpbudget room rdram₀ dmem₀ imem₀ queue₀ out₀ lengths moved₀ got₀ words₀ on₀ stop₀ sp dp rdram dmem imem queue out moved got words on stop =

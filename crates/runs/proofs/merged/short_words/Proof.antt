@@ -1,8 +1,8 @@
 use native.Mathlib.Omega.{arith}
 use borrow.Author.Needs.{needs}
-use Rattle.engines.proofs.Alone.{short-product}
-use Rattle.engines.proofs.merged.short_words.Statement.{statement}
-use Rattle.engines.proofs.merged.short_words.Tie as tie
+use Rattle.runs.proofs.Alone.{short-product}
+use Rattle.runs.proofs.merged.short_words.Statement.{statement}
+use Rattle.runs.proofs.merged.short_words.Tie as tie
 
 add-result : tie.Need-add-result
 add-result c = search needs

@@ -1,7 +1,7 @@
 use borrow.Author.Needs.{needs}
-use Rattle.engines.proofs.Rounds.{done}
-use Rattle.engines.proofs.merged.rounds.Statement.{statement}
-use Rattle.engines.proofs.merged.rounds.Tie as tie
+use Rattle.runs.proofs.Rounds.{done}
+use Rattle.runs.proofs.merged.rounds.Statement.{statement}
+use Rattle.runs.proofs.merged.rounds.Tie as tie
 
 sp-rounds-requires : tie.Need-sp-rounds-requires
 sp-rounds-requires c κs = search needs

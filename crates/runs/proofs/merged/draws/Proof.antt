@@ -1,6 +1,6 @@
 use borrow.Author.Needs.{needs}
-use Rattle.engines.proofs.merged.draws.Statement.{statement}
-use Rattle.engines.proofs.merged.draws.Tie as tie
+use Rattle.runs.proofs.merged.draws.Statement.{statement}
+use Rattle.runs.proofs.merged.draws.Tie as tie
 
 fetches-requires : tie.Need-fetches-requires
 fetches-requires c κs = search needs

@@ -9,10 +9,10 @@ use Rattle.words.specs.Memory.{memory}
 use Rattle.sp.specs.declared.SpState.{SpState}
 use Rattle.sp.specs.State.{spPowerUp}
 use Rattle.machine.specs.Runs.{sp, acts, left, merged}
-use Rattle.engines.specs.Standing.{standing, cutTo}
-use Rattle.engines.proofs.Rounds.{list-round-of, list-lives, less, again, over}
-use Rattle.engines.proofs.merged.list_rounds.Statement.{statement}
-use Rattle.engines.proofs.merged.list_rounds.Tie as tie
+use Rattle.runs.specs.Standing.{standing, cutTo}
+use Rattle.runs.proofs.Rounds.{list-round-of, list-lives, less, again, over}
+use Rattle.runs.proofs.merged.list_rounds.Statement.{statement}
+use Rattle.runs.proofs.merged.list_rounds.Tie as tie
 
 abbrev Inv-loop : tie.InvT-loop
 Inv-loop dp₀ got₀ words₀ dpbudget room rdram dmem queue₀ out₀ lengths dp got words queue out =

@@ -12,7 +12,7 @@ use Rattle.dp.specs.declared.DpState.{DpState}
 use Rattle.dp.specs.declared.turns.DpRan.{DpRan}
 use Rattle.machine.specs.declared.State.{State}
 use Rattle.machine.specs.declared.Ran.{Ran}
-use Rattle.engines.specs.declared.merged.Stood.{Stood}
+use Rattle.runs.specs.declared.merged.Stood.{Stood}
 use Rattle.machine.specs.Runs.{sp, Budgets, Run, begin, acts, merged, answered}
 
 abbrev pub both : SpState → DpState → List ℕ → State

@@ -1,8 +1,8 @@
 use native.Mathlib.Omega.{arith}
 use borrow.Author.Needs.{needs}
-use Rattle.engines.proofs.Alone.{either-off}
-use Rattle.engines.proofs.merged.turns_until.Statement.{statement}
-use Rattle.engines.proofs.merged.turns_until.Tie as tie
+use Rattle.runs.proofs.Alone.{either-off}
+use Rattle.runs.proofs.merged.turns_until.Statement.{statement}
+use Rattle.runs.proofs.merged.turns_until.Tie as tie
 
 returns : tie.Need-returns
 returns c = search needs

@@ -20,7 +20,7 @@ ghost use Prim.Native.Nat.{_≤_};
 ghost use Rattle.words.specs.Memory.{memory};
 ghost use Rattle.dp.specs.Tried.{mayFetch, mayConsume};
 ghost use Rattle.machine.specs.Promised.{RunGives};
-ghost use Rattle.engines.specs.Standing.{cutTo, endFrom, Ahead, Drawn, StandsAt, EndsAt};
+ghost use Rattle.runs.specs.Standing.{cutTo, endFrom, Ahead, Drawn, StandsAt, EndsAt};
 
 // A DP turn or a consumer turn acts.
 fn draws(dp: DpState, got: u32, dpbudget: u32, words: u32, room: u32) -> bool

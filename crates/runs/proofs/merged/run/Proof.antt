@@ -1,7 +1,7 @@
 use borrow.Author.Needs.{needs}
-use Rattle.engines.proofs.Promised.{run-done, run-declined}
-use Rattle.engines.proofs.merged.run.Statement.{statement}
-use Rattle.engines.proofs.merged.run.Tie as tie
+use Rattle.runs.proofs.Promised.{run-done, run-declined}
+use Rattle.runs.proofs.merged.run.Statement.{statement}
+use Rattle.runs.proofs.merged.run.Tie as tie
 
 sp-refusal-requires : tie.Need-sp-refusal-requires
 sp-refusal-requires c κs = search needs

@@ -1,8 +1,8 @@
 use native.Mathlib.Omega.{arith}
 use borrow.Author.Needs.{needs}
-use Rattle.engines.proofs.Alone.{has-turn, ahead-some, ahead-none}
-use Rattle.engines.proofs.merged.ahead.Statement.{statement}
-use Rattle.engines.proofs.merged.ahead.Tie as tie
+use Rattle.runs.proofs.Alone.{has-turn, ahead-some, ahead-none}
+use Rattle.runs.proofs.merged.ahead.Statement.{statement}
+use Rattle.runs.proofs.merged.ahead.Tie as tie
 
 sub-piece : tie.Need-sub-piece
 sub-piece c =

@@ -18,7 +18,7 @@ use Rattle.machine.specs.declared.Outcome.{Outcome}
 use Rattle.machine.specs.Refusals.{accepted}
 use Rattle.machine.specs.Runs.{sp, dp, consumer, Budgets, Run, acts, tried, round, live, left, merged}
 use Rattle.machine.proofs.Merged.{none-of, tried-on, tried-off, round-less, merged-round, merged-done}
-use Rattle.engines.specs.Standing.{both, standing, EndsAt}
+use Rattle.runs.specs.Standing.{both, standing, EndsAt}
 
 -- ---- A round, by what the code has after each of its turns
 

@@ -16,7 +16,7 @@ use Rattle.sp.proofs.Rows.{inside, advanced-busy}
 use Rattle.rows.specs.Pieces.{Pieced}
 use Rattle.machine.specs.Runs.{sp, dp, consumer, Budgets, Run, acts, took, tried, round, live, left, merged}
 use Rattle.machine.proofs.Merged.{none-of, tried-on, tried-off, round-less, merged-round}
-use Rattle.engines.specs.Standing.{standing, Ahead}
+use Rattle.runs.specs.Standing.{standing, Ahead}
 
 -- ---- Words of the SP alone
 
