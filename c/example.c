@@ -1,6 +1,6 @@
 /* Loads two words to the end of IMEM, where the second wraps to its start, while a list of three words is fetched, of which the last stays queued and is
- * consumed alone; loads twelve rows, one at a time; then writes the first load as a recording and replays it: as it is, with a wrong expectation, without
- * the read, and with a bad address. Each replay's verdict is shown.
+ * consumed alone; writes registers in a burst of which one address is bad; loads twelve rows, one at a time; then writes the first load as a recording and
+ * replays it: as it is, with a wrong expectation, without the read, and with a bad address. Each replay's verdict is shown.
  *
  *     rt staticlib ofersky
  *     cc -I c c/example.c target/staticlib/libofersky.a -o example && ./example
@@ -42,6 +42,20 @@ static void calls(void) {
     printf("consumed %016" PRIX64 ", DP line %u\n", turn.answer.value, turn.state.dp.line);
     s.sp.busy = 2; /* no flag: an unsound state */
     printf("refused by %u\n", ofersky_tick(s, 1).answer.number);
+}
+
+/* A transfer and a list are set up at once, but the fourth address is not a multiple of 4. */
+static void burst(void) {
+    static const uint32_t addresses[] = {0x04040004, 0x04040008, 0x04100000, 0x04100006, 0x04100004}; /* RAMADDR, RDLEN, START, a bad one, END */
+    static const uint32_t values[] = {0x2000, 0x0F, 0x0100, 0x0110, 0x0118};
+    ofersky_outcome o = ofersky_write_registers(ofersky_power_up(), addresses, 5, values, 5);
+    uint32_t done = o.answer.count;
+    printf("%u pairs written, refused by %u\n", done, o.answer.number);
+    printf("RAMADDR %08X, START %08X, DP STATUS %08X\n", value_of(o.state, 0x04040004), value_of(o.state, 0x04100000), value_of(o.state, 0x0410000C));
+    o = ofersky_write_registers(o.state, addresses + done + 1, 4 - done, values + done + 1, 4 - done); /* the pairs behind the bad one */
+    printf("%u pair written, CURRENT %08X, DP STATUS %08X\n", o.answer.count, value_of(o.state, 0x04100008), value_of(o.state, 0x0410000C));
+    o = ofersky_write_registers(o.state, addresses, 3, values, 2); /* START without its value */
+    printf("%u pairs written, refused by %u\n", o.answer.count, o.answer.number);
 }
 
 static void rows(void) {
@@ -110,6 +124,7 @@ static void recording(void) {
 
 int main(void) {
     calls();
+    burst();
     rows();
     recording();
     return 0;

@@ -3,11 +3,12 @@
  * Link target/staticlib/libofersky.a, which `rt staticlib ofersky` writes (x86-64 Linux).
  *
  * Every call takes every value of its parameters and answers it. Bad input is refused by the first number that applies: the state comes
- * back as handed in, value, count and words are 0, and no lent byte differs. A refused replay is the exception: what the records before the refused one
- * did stays done, the count is their number, and the listing is written.
+ * back as handed in, value, count and words are 0, and no lent byte differs. There are two exceptions. A refused replay: what the records before the
+ * refused one did stays done, the count is their number, and the listing is written. A burst of register writes that is refused by 10 or 5: what the pairs
+ * before the refused one did stays done, and the count is their number.
  *
- * What a caller owes is what C always asks: a pointer points to as many bytes as the length beside it says (with length 0 it is still not NULL),
- * and memory that a call may write overlaps nothing else that it is lent.
+ * What a caller owes is what C always asks: a pointer points to as many bytes, or in a burst to as many 32-bit numbers, as the length beside it says (with
+ * length 0 it is still not NULL), and memory that a call may write overlaps nothing else that it is lent.
  *
  *   0 success                            5 no register stands at the address
  *   1 RDRAM length not allowed           6 memory record address not allowed
@@ -15,6 +16,7 @@
  *   3 IMEM not 4,096 bytes               8 record cut short
  *   4 state not sound                    9 recording longer than 16,383 bytes
  *                                       10 register address not a multiple of 4, checked just before 5
+ *                                       11 burst of unequal lengths or of more than 64 pairs, checked before 4
  *                                       14 record does not fit
  */
 #ifndef OFERSKY_H
@@ -144,6 +146,12 @@ ofersky_outcome ofersky_write_register(ofersky_state s, uint32_t address, uint32
 ofersky_outcome ofersky_tick(ofersky_state s, uint32_t n);
 ofersky_outcome ofersky_sp_break(ofersky_state s);
 ofersky_outcome ofersky_acknowledge(ofersky_state s);
+
+/* A burst: writes value k at address k, one pair after the other, each on the state that the last one left, up to the first pair that is refused. The value
+ * is 0, the count the number of pairs written. Both lengths are numbers of pairs, from 0 to 64. Refusals: 11, where they differ or are more than 64, and 4,
+ * both with nothing done; then those of a pair: 10, 5. */
+ofersky_outcome ofersky_write_registers(ofersky_state s, const uint32_t *addresses, size_t addresses_length, const uint32_t *values,
+                                        size_t values_length);
 
 /* One SP turn. Refusals: 1, 2, 3, 4. */
 ofersky_outcome ofersky_sp_turn(ofersky_state s, uint8_t *rdram, size_t rdram_bytes, uint8_t *dmem, size_t dmem_bytes, uint8_t *imem,

@@ -29,13 +29,15 @@ use Rattle.machine.specs.declared.Register.{Register}
 use Rattle.machine.specs.declared.Register.the-variants.{Sp, Dp, Misaligned, Unmapped}
 use Rattle.machine.specs.Sound.{withDp, withRing, sound}
 use Rattle.machine.specs.Address.{registerAt}
-use Rattle.machine.specs.Refusals.{stateRefusal, accessRefusal, spRefusal, dpRefusal, declined, ifRefused}
+use Rattle.machine.specs.Refusals.{stateRefusal, accessRefusal, spRefusal, dpRefusal, declined, ending, ifRefused}
 use Rattle.machine.specs.Calls.{readAt, writeAt, readRegister, writeRegister, tick, break, acknowledge}
 use Rattle.machine.specs.Turns.{spTurn, spTurnMemory, dpTurn, consumerTurn}
 use Rattle.machine.specs.Rows.{spRow, spRowMemory}
 use Rattle.machine.specs.Runs.{Kind, sp, dp, consumer, Budgets, budgets, Run, begin, acts, took, tried, round, live, rounds, left, merged, endOfRun, run}
 use Rattle.machine.specs.Look.{nextWordOf, emptyOf, shown, look}
 use Rattle.machine.specs.Kept.{Kept}
+use Rattle.bursts.specs.Bursts.{burstRefusal, writesFrom, writeRegisters}
+use Rattle.bursts.specs.Single.{Words32}
 use Rattle.alike.specs.Alike.{withoutSlot, Alike, SameOutcome, SameRun, CallsAlike}
 use Rattle.machine.proofs.Sound.{facts}
 use Rattle.machine.proofs.Merged.{consumer-acts}
@@ -491,12 +493,39 @@ module _ (s t : State) (h : Alike s t) (a b c : ℕ) (m : Memory) (out : List �
         output = e .out;
       }
 
+-- ---- A burst
+
+same-ending : (s t : State) (n k c : ℕ) → n ≡ k → Alike s t → SameOutcome (ending s n c) (ending t k c)
+same-ending s t n k c e h = record { answer = λ i. record { number = e i; value = 0; count = c }; states = h }
+
+writes-alike : (k : ℕ) (xs vs : List ℕ) (s t : State) → Alike s t → Words32 vs → SameOutcome (writesFrom k xs vs s) (writesFrom k xs vs t)
+unfolding writesFrom
+writes-alike k [] vs s t h f = same-ending s t 0 0 k refl h
+writes-alike k (a ∷ xs) [] s t h f = same-ending s t 0 0 k refl h
+writes-alike k (a ∷ xs) (v ∷ vs) s t h f =
+    let o = writeRegister s a v in
+    let p = writeRegister t a v in
+    let w = write-alike s t h a v (f 0) in
+    let e : o .answer .number ≡ p .answer .number = λ i. w .answer i .number in
+    numbered SameOutcome (o .answer .number) (p .answer .number) _ _ _ _ e
+    (same-ending s t (o .answer .number) (p .answer .number) k e h)
+    (writes-alike (suc k) xs vs (o .state) (p .state) (w .states) (λ i. f (suc i)))
+
+burst-alike : (s t : State) → Alike s t → (xs vs : List ℕ) → Words32 vs → SameOutcome (writeRegisters s xs vs) (writeRegisters t xs vs)
+unfolding writeRegisters burstRefusal
+burst-alike s t h xs vs f =
+    let e : burstRefusal s xs vs ≡ burstRefusal t xs vs = rw (state-number s t h) in
+    numbered SameOutcome (burstRefusal s xs vs) (burstRefusal t xs vs) _ _ _ _ e
+    (same-ending s t (burstRefusal s xs vs) (burstRefusal t xs vs) 0 e h)
+    (writes-alike 0 xs vs s t h f)
+
 -- ---- All of them
 
 pub calls-alike : (s t : State) → Alike s t → CallsAlike s t
 calls-alike s t a = record {
   read = read-alike s t a;
   write = write-alike s t a;
+  burst = burst-alike s t a;
   tick = tick-alike s t a;
   break = break-alike s t a;
   acknowledge = acknowledge-alike s t a;

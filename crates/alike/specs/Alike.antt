@@ -16,6 +16,8 @@ use Rattle.machine.specs.Turns
 use Rattle.machine.specs.Rows
 use Rattle.machine.specs.Runs
 use Rattle.machine.specs.Look.{look}
+use Rattle.bursts.specs.Bursts.{writeRegisters}
+use Rattle.bursts.specs.Single.{Words32}
 
 -- The registers of the DP with the slot of the oldest word left out
 abbrev pub withoutSlot : DpState → DpState
@@ -44,6 +46,7 @@ pub record SameRun (s t : State) (a b c : ℕ) (m : Memory) (out : List ℕ) : T
 pub record CallsAlike (s t : State) : Type 0 where
   pub read : (a : ℕ) → SameOutcome (Calls.readRegister s a) (Calls.readRegister t a)
   pub write : (a v : ℕ) → v < 0x100000000 → SameOutcome (Calls.writeRegister s a v) (Calls.writeRegister t a v)
+  pub burst : (xs vs : List ℕ) → Words32 vs → SameOutcome (writeRegisters s xs vs) (writeRegisters t xs vs)
   pub tick : (n : ℕ) → SameOutcome (Calls.tick s n) (Calls.tick t n)
   pub break : SameOutcome (Calls.break s) (Calls.break t)
   pub acknowledge : SameOutcome (Calls.acknowledge s) (Calls.acknowledge t)

@@ -2,6 +2,7 @@
 use Prim.Native.Nat.{ℕ, zero, suc}
 use mathlib.Core.Path.{_≡_, refl, sym, ap, _∙_}
 use mathlib.Core.Bool.{Bool, true, false}
+use mathlib.Core.List.{List}
 use native.Mathlib.Omega.{arith}
 use borrow.Author.Tests.{leb-true}
 use Rattle.words.specs.Bits.{asBit}
@@ -13,7 +14,9 @@ use Rattle.dp.specs.declared.DpState.{DpState}
 use Rattle.machine.specs.declared.State.{State}
 use Rattle.machine.specs.declared.Outcome.{Outcome}
 use Rattle.machine.specs.Sound.{sound}
-use Rattle.machine.specs.Refusals.{Answers}
+use Rattle.machine.specs.Refusals.{declined, Answers}
+use Rattle.bursts.specs.Bursts.{burstRefusal, writeRegisters}
+use Rattle.bursts.proofs.Bursts.{burst-declined}
 use Rattle.host.specs.declared.HostSp.{HostSp}
 use Rattle.host.specs.declared.HostDp.{HostDp}
 use Rattle.playback.specs.Verdict.{judged, codeOf}
@@ -176,16 +179,25 @@ unfolding handed
 handed-no-flag h o e = rw e
 
 -- A declined call left the state that h stands for, whose bytes are h again
-pub call-from-host : (h : HostState) (n : ℕ) (o : Outcome) → Answers n (decoded h) o → CallFromHost h n o
-call-from-host h n o a = record {
+from-declined : (h : HostState) (n : ℕ) (o : Outcome) → ((k : ℕ) → n ≡ suc k → o ≡ declined (decoded h) n) → CallFromHost h n o
+from-declined h n o r = record {
   declined =
       λ k e.
-      let d = a .refused k e in
+      let d = r k e in
       by (flags h)
       (λ f. handed-flags h o f ∙ rw (d, encoded-decoded h f))
       (λ f. handed-no-flag h o f ∙ rw d);
   made = λ e. handed-flags h o (sound-flags h e);
 }
+
+-- `machine/proofs/Refusals.antt` shows `Answers` of every call but a burst
+pub call-from-host : (h : HostState) (n : ℕ) (o : Outcome) → Answers n (decoded h) o → CallFromHost h n o
+call-from-host h n o a = from-declined h n o (a .refused)
+
+pub burst-from-host : (h : HostState) (xs vs : List ℕ) → CallFromHost h (burstRefusal (decoded h) xs vs) (writeRegisters (decoded h) xs vs)
+burst-from-host h xs vs =
+    from-declined h (burstRefusal (decoded h) xs vs) (writeRegisters (decoded h) xs vs)
+    (λ k e. burst-declined (decoded h) xs vs k e ∙ ap (declined (decoded h)) (sym e))
 
 -- ---- The verdict
 

@@ -36,7 +36,8 @@ refusedHost h number = record { state = h; answer = record { number = number; va
 abbrev pub encodedOutcome : Outcome → HostOutcome
 encodedOutcome o = record { state = encoded (o .state); answer = o .answer }
 
--- Of a call with number n that gave o on the state that h stands for. `machine/proofs/Refusals.antt` shows `Answers` of every call
+-- Of a call whose checks gave n, and that gave o on the state that h stands for. A burst's checks are those before its first pair: what it
+-- keeps where a pair is refused is in `made`
 pub record CallFromHost (h : HostState) (n : ℕ) (o : Outcome) : Type 0 where
   pub declined : (k : ℕ) → n ≡ suc k → handed h o ≡ refusedHost h n
   -- On a state that is sound it is the call itself

@@ -6,9 +6,10 @@ use mathlib.Core.Bool.{Bool, true, false, not, cond, _&&_, _||_, or-true, or-fal
 use mathlib.Core.Logic.{_↔_}
 use mathlib.Core.List.{List, [], _∷_, map, List·Memᴰ, List·Memᴰ·head, List·Memᴰ·tail}
 use native.Mathlib.Omega.{arith}
-use lib.Dec.{eqb}
-use lib.ListN.{getD, drop}
-use borrow.Author.Tests.{ne-eqb, lt-ltb, le-ltb}
+use native.Mathlib.Nat.{zero-add}
+use lib.Dec.{ltb, eqb}
+use lib.ListN.{length, getD, take, drop}
+use borrow.Author.Tests.{ne-eqb, lt-ltb, le-ltb, ltb-false}
 use Rattle.words.specs.Bits.{asBit, bankAddress, ramAddress, ramAdd}
 use Rattle.words.specs.Memory.{Memory}
 use Rattle.words.proofs.Tests.{by, contradiction}
@@ -30,8 +31,8 @@ use Rattle.machine.specs.declared.Register.{Register}
 use Rattle.machine.specs.declared.Register.the-variants.{Sp, Dp, Misaligned, Unmapped}
 use Rattle.machine.specs.Sound.{powerUp, withSp, sound}
 use Rattle.machine.specs.Address.{inBlock, registerAt, firstCopy, addresses}
-use Rattle.machine.specs.Refusals.{isRegister, registerNumber, accessRefusal, stateRefusal, spRefusal, dpRefusal, accepted, declined, ifRefused}
-use Rattle.machine.specs.Calls.{readAt, writeAt, readRegister, writeRegister, tick, break, acknowledge}
+use Rattle.machine.specs.Refusals.{isRegister, registerNumber, accessRefusal, stateRefusal, spRefusal, dpRefusal, accepted, declined, ending, ifRefused}
+use Rattle.machine.specs.Calls.{spWritten, readAt, writeAt, readRegister, writeRegister, tick, break, acknowledge}
 use Rattle.machine.specs.Turns.{spTurn, dpTurn, consumerTurn}
 use Rattle.machine.specs.Runs.{run}
 use Rattle.machine.specs.Rows.{spRow}
@@ -41,7 +42,10 @@ use Rattle.machine.proofs.Refusals.{run-declined}
 use Rattle.machine.proofs.Runs.{sp-part}
 use Rattle.machine.proofs.Rows.{row-is-run}
 use Rattle.machine.proofs.Address.{in-block, mirrored, sixteen}
-use Rattle.laws.specs.Waiting.{Event, reads, writes, ticks, breaks, acknowledges, spTurnOver, spRowOver, dpTurnOver, consumerTurns, runOver, eventLeaves, traceLeaves, Written, noted, note, lastWritten, writtenBefore, Holds, isLength, lengthWrites, writesLength, movesOf, moves, begins, begun, SameTransfer, Starts, Before, BeginsOnce, TraceWritten}
+use Rattle.bursts.specs.Bursts.{burstAllowed, burstRefusal, writesFrom, writeRegisters}
+use Rattle.bursts.specs.Single.{Words32, leading, pairsWritten}
+use Rattle.bursts.proofs.Bursts.{write-sound, write-number, allowed, burst-begins, not-declined, burst-declined, burst-kept}
+use Rattle.laws.specs.Waiting.{Event, reads, writes, bursts, ticks, breaks, acknowledges, spTurnOver, spRowOver, dpTurnOver, consumerTurns, runOver, eventLeaves, traceLeaves, Written, noted, notedAll, note, lastWritten, writtenBefore, Holds, isLength, lengthsAmong, lengthsOf, lengthWrites, writesLength, movesOf, moves, begins, begun, SameTransfer, Starts, Before, BeginsOnce, TraceWritten}
 
 -- ---- What a write does, by the register at its address
 
@@ -71,12 +75,6 @@ takesLength (Sp SpReg.Semaphore) = false
 takesLength (Dp r) = false
 takesLength Misaligned = false
 takesLength Unmapped = false
-
-abbrev spWritten : Register → SpState → ℕ → SpState
-spWritten (Sp r) s v = spWrite r s v
-spWritten (Dp r) s v = s
-spWritten Misaligned s v = s
-spWritten Unmapped s v = s
 
 -- Two functions that agree on a list agree on each of its elements
 same-on : {A : Type 0} (f g : ℕ → A) (l : List ℕ) (a : ℕ) → map f l ≡ map g l → List·Memᴰ a l → f a ≡ g a
@@ -127,23 +125,22 @@ notes-at a v w =
     rw (other a 0x04040000 refl e, other a 0x04040004 refl e, other a 0x04040008 refl e, other a 0x0404000C refl e)
     (none-noted (registerAt a) v w e))
 
-length-at : (a : ℕ) → (eqb a 0x04040008 || eqb a 0x0404000C) ≡ takesLength (registerAt a)
+length-at : (a : ℕ) → isLength a ≡ takesLength (registerAt a)
 unfolding registerAt
 length-at a =
     by (isRegister (registerAt a))
     (λ e.
     rw (by-first-copy a 0x04040008 (omega arith), by-first-copy a 0x0404000C (omega arith), mirrored a)
-    (same-on (λ x. eqb x 0x04040008 || eqb x 0x0404000C) (λ x. takesLength (registerAt x)) addresses (firstCopy a) refl (sixteen a .0 e)))
+    (same-on isLength (λ x. takesLength (registerAt x)) addresses (firstCopy a) refl (sixteen a .0 e)))
     (λ e.
     rw (other a 0x04040008 refl e, other a 0x0404000C refl e)
     (none-taken (registerAt a) e))
 
 -- A write to a sound state
 write-leaves : (s : State) (a v : ℕ) → sound s ≡ true → writeRegister s a v .state .sp ≡ spWritten (registerAt a) (s .sp) v
-unfolding writeRegister accessRefusal
-write-leaves s a v e = rw e (at (registerAt a))
+write-leaves s a v e = rw (write-sound s a v e) (at (registerAt a))
   where
-    at : (r : Register) → ifRefused (registerNumber r) (declined s (registerNumber r)) (writeAt r s v) .state .sp ≡ spWritten r (s .sp) v
+    at : (r : Register) → writeAt r s v .state .sp ≡ spWritten r (s .sp) v
     at (Sp r) = refl
     at (Dp r) = refl
     at Misaligned = refl
@@ -175,12 +172,23 @@ record Still (s t : SpState) (f : Written → Written) : Type 0 where
   full : t .full ≡ s .full
   holds : (w : Written) → Holds w s → Holds (f w) t
 
--- A call changes nothing of the transfers but the latches, or writes a length word, or takes SP turns
+-- No more than n transfers begin, or wait in the end, beside the one that waited before
+abbrev Uses : ℕ → SpState → SpState → Type 0
+Uses n s t = asBit (begins s t) + asBit (t .full) ≤ n + asBit (s .full)
+
+-- From s to t no word is moved, n length words are written, and f says what was last written
+record Several (n : ℕ) (s t : SpState) (f : Written → Written) : Type 0 where
+  holds : (w : Written) → Holds w s → Holds (f w) t
+  uses : Uses n s t
+  waits : s .busy ≡ true → SameTransfer t s × (t .full ≡ (s .full || ltb 0 n))
+
+-- A call changes nothing of the transfers but the latches, or writes a length word, or takes SP turns, or does several writes
 data Effect (e : Event) (s : State) : Type 0 where
-  still : isLength e ≡ false → movesOf e s ≡ 0 → Still (s .sp) (eventLeaves e s .sp) (note e) → Effect e s
-  wrote : (v : ℕ) (storing : Bool) → isLength e ≡ true → movesOf e s ≡ 0 → eventLeaves e s .sp ≡ lengthWritten (s .sp) v storing
+  still : lengthsOf e ≡ 0 → movesOf e s ≡ 0 → Still (s .sp) (eventLeaves e s .sp) (note e) → Effect e s
+  wrote : (v : ℕ) (storing : Bool) → lengthsOf e ≡ 1 → movesOf e s ≡ 0 → eventLeaves e s .sp ≡ lengthWritten (s .sp) v storing
       → ((w : Written) → note e w ≡ record { splatch = w .splatch; ramlatch = w .ramlatch; word = v; storing = storing }) → Effect e s
-  turned : isLength e ≡ false → eventLeaves e s .sp ≡ spAfter (movesOf e s) (s .sp) → ((w : Written) → note e w ≡ w) → Effect e s
+  turned : lengthsOf e ≡ 0 → eventLeaves e s .sp ≡ spAfter (movesOf e s) (s .sp) → ((w : Written) → note e w ≡ w) → Effect e s
+  several : movesOf e s ≡ 0 → Several (lengthsOf e) (s .sp) (eventLeaves e s .sp) (note e) → Effect e s
 
 -- Only other registers change
 others : (s t : SpState) → SameTransfer t s → t .full ≡ s .full → writtenIn t ≡ writtenIn s → Still s t (λ w. w)
@@ -232,7 +240,7 @@ write-still Unmapped s v l = nothing s
 record WriteTo (r : Register) (a v : ℕ) (s : State) : Type 0 where
   leaves : writeRegister s a v .state .sp ≡ spWritten r (s .sp) v
   written : (w : Written) → noted a v w ≡ notes r v w
-  length : (eqb a 0x04040008 || eqb a 0x0404000C) ≡ takesLength r
+  length : isLength a ≡ takesLength r
 
 write-effect : (a v : ℕ) (f : v < 0x100000000) (s : State) → sound s ≡ true → Effect (writes a v f) s
 write-effect a v f s h = at (registerAt a) (record { leaves = write-leaves s a v h; written = notes-at a v; length = length-at a })
@@ -240,14 +248,14 @@ write-effect a v f s h = at (registerAt a) (record { leaves = write-leaves s a v
     short : (r : Register) → takesLength r ≡ false → WriteTo r a v s → Effect (writes a v f) s
     short r e p =
         let k = write-still r (s .sp) v e in
-        still (p .length ∙ e) refl
+        still (ap asBit (p .length ∙ e)) refl
         (rw (p .leaves) (record { same = k .same; full = k .full; holds = λ w g. rw (p .written w) (k .holds w g) }))
 
     at : (r : Register) → WriteTo r a v s → Effect (writes a v f) s
     at (Sp SpReg.SpAddr) p = short (Sp SpReg.SpAddr) refl p
     at (Sp SpReg.RamAddr) p = short (Sp SpReg.RamAddr) refl p
-    at (Sp SpReg.RdLen) p = wrote v false (p .length) refl (p .leaves) (p .written)
-    at (Sp SpReg.WrLen) p = wrote v true (p .length) refl (p .leaves) (p .written)
+    at (Sp SpReg.RdLen) p = wrote v false (ap asBit (p .length)) refl (p .leaves) (p .written)
+    at (Sp SpReg.WrLen) p = wrote v true (ap asBit (p .length)) refl (p .leaves) (p .written)
     at (Sp SpReg.Status) p = short (Sp SpReg.Status) refl p
     at (Sp SpReg.DmaFull) p = short (Sp SpReg.DmaFull) refl p
     at (Sp SpReg.DmaBusy) p = short (Sp SpReg.DmaBusy) refl p
@@ -283,32 +291,6 @@ run-moves s a b c m out = at (spRefusal s m) refl
 -- A row is the run with its turns
 row-moves : (s : State) (m : Memory) → spRow s m .state .sp ≡ spAfter (spRow s m .answer .count) (s .sp)
 row-moves s m = rw (row-is-run s m [] .outcome) (run-moves s (rowTurns (s .sp)) 0 0 m [])
-
-effect : (e : Event) (s : State) → sound s ≡ true → Effect e s
-unfolding readRegister tick break acknowledge dpTurn consumerTurn
-effect (reads a) s h = still refl refl (quiet (accessRefusal s a) s (readAt (registerAt a) s) (read-still (registerAt a) s))
-effect (writes a v f) s h = write-effect a v f s h
-effect (ticks n) s h = still refl refl (quiet (stateRefusal s) s _ (nothing (s .sp)))
-effect breaks s h = still refl refl (quiet (stateRefusal s) s _ (others (s .sp) (spBreak (s .sp)) (search) refl refl))
-effect acknowledges s h = still refl refl (quiet (stateRefusal s) s _ (nothing (s .sp)))
-effect (spTurnOver m) s h = turned refl (turn-moves s m) (λ w. refl)
-effect (spRowOver m) s h = turned refl (row-moves s m) (λ w. refl)
-effect (dpTurnOver rdram dmem) s h = still refl refl (quiet (dpRefusal s rdram dmem) s _ (nothing (s .sp)))
-effect consumerTurns s h = still refl refl (quiet (stateRefusal s) s _ (nothing (s .sp)))
-effect (runOver a b c m out) s h = turned refl (run-moves s a b c m out) (λ w. refl)
-
--- Every call leaves a sound state
-pub event-kept : (e : Event) (s : State) → sound s ≡ true → sound (eventLeaves e s) ≡ true
-event-kept (reads a) s h = read-kept s a h
-event-kept (writes a v f) s h = write-kept s a v f h
-event-kept (ticks n) s h = tick-kept s n h
-event-kept breaks s h = break-kept s h
-event-kept acknowledges s h = acknowledge-kept s h
-event-kept (spTurnOver m) s h = sp-turn-kept s m h
-event-kept (spRowOver m) s h = sp-row-kept s m h
-event-kept (dpTurnOver rdram dmem) s h = dp-turn-kept s rdram dmem h
-event-kept consumerTurns s h = consumer-turn-kept s h
-event-kept (runOver a b c m out) s h = run-kept s a b c m out h
 
 -- ---- A length word is written
 
@@ -360,53 +342,42 @@ after-turned (suc n) s =
 
 -- ---- What was last written stays in the registers
 
-event-holds : (e : Event) (s : State) → sound s ≡ true → (w : Written) → Holds w (s .sp) → Holds (note e w) (eventLeaves e s .sp)
-event-holds e s h w g = go (effect e s h)
-  where
-    go : Effect e s → Holds (note e w) (eventLeaves e s .sp)
-    go (still l m k) = k .holds w g
-    go (wrote v storing l m p q) = rw (p, q w) (length-holds w (s .sp) v storing g)
-    go (turned l p q) =
-        let t = after-turned (movesOf e s) (s .sp) in
-        rw (p, q w) (holds-on w (s .sp) (spAfter (movesOf e s) (s .sp)) (t .written) (t .full) g)
-
-trace-holds : (es : List Event) (s : State) → sound s ≡ true → (w : Written) → Holds w (s .sp) → Holds (lastWritten es w) (traceLeaves es s .sp)
-unfolding lastWritten traceLeaves
-trace-holds [] s h w g = g
-trace-holds (e ∷ es) s h w g = trace-holds es (eventLeaves e s) (event-kept e s h) (note e w) (event-holds e s h w g)
+effect-holds : (e : Event) (s : State) → Effect e s → (w : Written) → Holds w (s .sp) → Holds (note e w) (eventLeaves e s .sp)
+effect-holds e s (still l m k) w g = k .holds w g
+effect-holds e s (wrote v storing l m p q) w g = rw (p, q w) (length-holds w (s .sp) v storing g)
+effect-holds e s (turned l p q) w g =
+    let t = after-turned (movesOf e s) (s .sp) in
+    rw (p, q w) (holds-on w (s .sp) (spAfter (movesOf e s) (s .sp)) (t .written) (t .full) g)
+effect-holds e s (several m k) w g = k .holds w g
 
 -- ---- Each beginning uses up a length word
 
--- Between s and t: the one written in this call, or the one that waited
-abbrev Uses : Bool → SpState → SpState → Type 0
-Uses new s t = asBit (begins s t) + asBit (t .full) ≤ asBit new + asBit (s .full)
-
 -- Where BUSY and FULL do not come on none begins but the one that waited
-turned-uses : (new : Bool) (s t : SpState) → (t .busy ≡ true → s .busy ≡ true) → (t .full ≡ true → s .full ≡ true) → Uses new s t
-turned-uses new s t p q = rw (not-on (s .busy) (t .busy) p) (off (s .full) (t .full) q)
+turned-uses : (n : ℕ) (s t : SpState) → (t .busy ≡ true → s .busy ≡ true) → (t .full ≡ true → s .full ≡ true) → Uses n s t
+turned-uses n s t p q = rw (not-on (s .busy) (t .busy) p) (off (s .full) (t .full) q)
   where
     not-on : (b c : Bool) → (c ≡ true → b ≡ true) → (not b && c) ≡ false
     not-on true c p = refl
     not-on false true p = contradiction (p refl) refl
     not-on false false p = refl
 
-    off : (f g : Bool) → (g ≡ true → f ≡ true) → asBit (f && not g) + asBit g ≤ asBit new + asBit f
+    off : (f g : Bool) → (g ≡ true → f ≡ true) → asBit (f && not g) + asBit g ≤ n + asBit f
     off true true p = omega arith
     off true false p = omega arith
     off false true p = contradiction (p refl) refl
     off false false p = omega arith
 
 -- The same by BUSY and FULL before, and BUSY and FULL after
-uses : (new : Bool) (s t : SpState) (b f c g : Bool) → s .busy ≡ b → s .full ≡ f → t .busy ≡ c → t .full ≡ g
-    → asBit ((not b && c) || (f && not g)) + asBit g ≤ asBit new + asBit f → Uses new s t
-uses new s t b f c g p q r u h = rw (p, q, r, u) h
+uses : (n : ℕ) (s t : SpState) (b f c g : Bool) → s .busy ≡ b → s .full ≡ f → t .busy ≡ c → t .full ≡ g
+    → asBit ((not b && c) || (f && not g)) + asBit g ≤ n + asBit f → Uses n s t
+uses n s t b f c g p q r u h = rw (p, q, r, u) h
 
-length-uses : (s : SpState) (v : ℕ) (storing : Bool) → SpSound s → Uses true s (lengthWritten s v storing)
+length-uses : (s : SpState) (v : ℕ) (storing : Bool) → SpSound s → Uses 1 s (lengthWritten s v storing)
 unfolding started
 length-uses s v storing h =
     by (s .busy)
-    (λ b. rw (length-busy s v storing b) (uses true s (withWaiting s v storing) true (s .full) true true b refl b refl (waits (s .full))))
-    (λ b. rw (length-idle s v storing b) (uses true s (started s v storing) false false true false b (none b) refl refl (omega arith)))
+    (λ b. rw (length-busy s v storing b) (uses 1 s (withWaiting s v storing) true (s .full) true true b refl b refl (waits (s .full))))
+    (λ b. rw (length-idle s v storing b) (uses 1 s (started s v storing) false false true false b (none b) refl refl (omega arith)))
   where
     waits : (f : Bool) → asBit (f && false) + 1 ≤ 1 + asBit f
     waits true = omega arith
@@ -415,16 +386,198 @@ length-uses s v storing h =
     none : s .busy ≡ false → s .full ≡ false
     none b = by (s .full) (λ f. contradiction (h .fullBusy f) b) (λ f. f)
 
-event-uses : (e : Event) (s : State) → sound s ≡ true → Uses (isLength e) (s .sp) (eventLeaves e s .sp)
-event-uses e s h = go (effect e s h)
+effect-uses : (e : Event) (s : State) → SpSound (s .sp) → Effect e s → Uses (lengthsOf e) (s .sp) (eventLeaves e s .sp)
+effect-uses e s h (still l m k) =
+    turned-uses (lengthsOf e) (s .sp) (eventLeaves e s .sp) (λ b. sym (k .same .busy) ∙ b) (λ f. sym (k .full) ∙ f)
+effect-uses e s h (wrote v storing l m p q) = rw (l, p) (length-uses (s .sp) v storing h)
+effect-uses e s h (turned l p q) =
+    let t = after-turned (movesOf e s) (s .sp) in
+    rw (l, p) (turned-uses 0 (s .sp) (spAfter (movesOf e s) (s .sp)) (t .busy) (t .full))
+effect-uses e s h (several m k) = k .uses
+
+-- ---- While a transfer runs, a call that moves no word leaves it as it is, and a length word waits
+
+effect-waits : (e : Event) (s : State) → movesOf e s ≡ 0 → s .sp .busy ≡ true → Effect e s
+    → SameTransfer (eventLeaves e s .sp) (s .sp) × (eventLeaves e s .sp .full ≡ (s .sp .full || ltb 0 (lengthsOf e)))
+unfolding spAfter
+effect-waits e s z b (still l m k) = (k .same, k .full ∙ rw l (sym (or-false (s .sp .full))))
+effect-waits e s z b (wrote v storing l m p q) =
+    let w = p ∙ length-busy (s .sp) v storing b in
+    (rw w (waiting v storing), ap (λ (t : SpState). t .full) w ∙ rw l (sym (or-true (s .sp .full))))
   where
-    go : Effect e s → Uses (isLength e) (s .sp) (eventLeaves e s .sp)
-    go (still l m k) =
-        turned-uses (isLength e) (s .sp) (eventLeaves e s .sp) (λ b. sym (k .same .busy) ∙ b) (λ f. sym (k .full) ∙ f)
-    go (wrote v storing l m p q) = rw (l, p) (length-uses (s .sp) v storing (facts s h .sp))
-    go (turned l p q) =
-        let t = after-turned (movesOf e s) (s .sp) in
-        rw (l, p) (turned-uses false (s .sp) (spAfter (movesOf e s) (s .sp)) (t .busy) (t .full))
+    waiting : (v : ℕ) (storing : Bool) → SameTransfer (withWaiting (s .sp) v storing) (s .sp)
+    waiting v storing = search
+effect-waits e s z b (turned l p q) = (rw (p, z) (same-transfer (s .sp)), rw (p, z, l) (sym (or-false (s .sp .full))))
+effect-waits e s z b (several m k) = k .waits b
+
+-- ---- Several writes, one after the other
+
+same-again : (s t u : SpState) → SameTransfer s t → SameTransfer t u → SameTransfer s u
+same-again s t u p q = record {
+  spaddr = p .spaddr ∙ q .spaddr;
+  ramaddr = p .ramaddr ∙ q .ramaddr;
+  len = p .len ∙ q .len;
+  count = p .count ∙ q .count;
+  skip = p .skip ∙ q .skip;
+  row = p .row ∙ q .row;
+  storing = p .storing ∙ q .storing;
+  busy = p .busy ∙ q .busy;
+}
+
+-- Some of a and b is some of a or some of b
+some-add : (a b : ℕ) → ltb 0 (a + b) ≡ (ltb 0 a || ltb 0 b)
+some-add zero b = ap (ltb 0) (zero-add b)
+some-add (suc a) b = lt-ltb 0 (suc a + b) (omega arith) ∙ rw (lt-ltb 0 (suc a) (omega arith))
+
+-- What begins from s to u began before t or after it
+begins-add : (s t u : SpState) → asBit (begins s u) ≤ asBit (begins s t) + asBit (begins t u)
+begins-add s t u = go (s .busy) (t .busy) (u .busy) (s .full) (t .full) (u .full)
+  where
+    off : (f g k : Bool) → asBit (f && not k) ≤ asBit (f && not g) + asBit (g && not k)
+    off true true k = omega arith
+    off true false true = omega arith
+    off true false false = omega arith
+    off false g k = omega arith
+
+    go : (a b c f g k : Bool)
+        → asBit ((not a && c) || (f && not k)) ≤ asBit ((not a && b) || (f && not g)) + asBit ((not b && c) || (g && not k))
+    go true true c f g k = off f g k
+    go true false true f g k = at-most-two (f && not g) (f && not k)
+      where
+        at-most-two : (x y : Bool) → asBit y ≤ asBit x + 1
+        at-most-two true true = omega arith
+        at-most-two true false = omega arith
+        at-most-two false true = omega arith
+        at-most-two false false = omega arith
+    go true false false f g k = off f g k
+    go false true c f g k = one ((not false && c) || (f && not k)) ((not true && c) || (g && not k))
+      where
+        one : (x y : Bool) → asBit x ≤ 1 + asBit y
+        one true true = omega arith
+        one true false = omega arith
+        one false true = omega arith
+        one false false = omega arith
+    go false false true f g k = one (f && not g)
+      where
+        one : (x : Bool) → 1 ≤ asBit x + 1
+        one true = omega arith
+        one false = omega arith
+    go false false false f g k = off f g k
+
+none-several : (s : SpState) → Several 0 s s (λ w. w)
+none-several s = record {
+  holds = λ w h. h;
+  uses = turned-uses 0 s s (λ b. b) (λ f. f);
+  waits = λ b. (same-transfer s, sym (or-false (s .full)));
+}
+
+both-several : (a b : ℕ) (s t u : SpState) (f g : Written → Written) → Several a s t f → Several b t u g → Several (a + b) s u (λ w. g (f w))
+both-several a b s t u f g p q = record {
+  holds = λ w h. q .holds (f w) (p .holds w h);
+  uses =
+      chain (asBit (begins s u)) (asBit (begins s t)) (asBit (begins t u)) (asBit (s .full)) (asBit (t .full)) (asBit (u .full))
+      (begins-add s t u) (p .uses) (q .uses);
+  waits = λ i.
+      let x = p .waits i in
+      let y = q .waits (x .0 .busy ∙ i) in (
+        same-again u t s (y .0) (x .0),
+        y .1 ∙ ap (λ (z : Bool). z || ltb 0 b) (x .1) ∙ or-assoc (s .full) (ltb 0 a) (ltb 0 b) ∙ ap (λ (z : Bool). s .full || z) (sym (some-add a b)),
+      );
+}
+  where
+    chain : (su st tu i j k : ℕ) → su ≤ st + tu → st + j ≤ a + i → tu + k ≤ b + j → su + k ≤ a + b + i
+    chain su st tu i j k x y z = omega arith
+
+write-several : (a v : ℕ) (f : v < 0x100000000) (s : State) → sound s ≡ true
+    → Several (asBit (isLength a)) (s .sp) (writeRegister s a v .state .sp) (noted a v)
+write-several a v f s h =
+    let e = write-effect a v f s h in
+    record {
+      holds = effect-holds (writes a v f) s e;
+      uses = effect-uses (writes a v f) s (facts s h .sp) e;
+      waits = λ b. effect-waits (writes a v f) s refl b e;
+    }
+
+-- The pairs before the first address where there is no register
+writes-several : (k : ℕ) (xs vs : List ℕ) (s : State) → Words32 vs → length xs ≡ length vs → sound s ≡ true
+    → Several (lengthsAmong (take (leading xs) xs)) (s .sp) (writesFrom k xs vs s .state .sp)
+    (notedAll (take (leading xs) xs) (take (leading xs) vs))
+unfolding writesFrom leading lengthsAmong notedAll
+writes-several k [] vs s f l h = none-several (s .sp)
+writes-several k (a ∷ xs) [] s f l h = absurd (omega arith)
+writes-several k (a ∷ xs) (v ∷ vs) s f l h =
+    let t : State = writeRegister s a v .state in
+    let n : writeRegister s a v .answer .number ≡ registerNumber (registerAt a) =
+    ap (λ (o : Outcome). o .answer .number) (write-sound s a v h) ∙ write-number (registerAt a) s v in
+    rw n
+    (at (registerAt a)
+    (both-several (asBit (isLength a)) (lengthsAmong (take (leading xs) xs)) (s .sp) (t .sp) (writesFrom (suc k) xs vs t .state .sp) (noted a v)
+    (notedAll (take (leading xs) xs) (take (leading xs) vs))
+    (write-several a v (f 0) s h)
+    (writes-several (suc k) xs vs t (λ i. f (suc i)) (omega arith) (write-kept s a v (f 0) h))))
+  where
+    at : (r : Register)
+        → Several (asBit (isLength a) + lengthsAmong (take (leading xs) xs)) (s .sp) (writesFrom (suc k) xs vs (writeRegister s a v .state) .state .sp)
+        (λ w. notedAll (take (leading xs) xs) (take (leading xs) vs) (noted a v w))
+        → Several (lengthsAmong (take (cond (isRegister r) (suc (leading xs)) 0) (a ∷ xs))) (s .sp)
+        (ifRefused (registerNumber r) (ending s (registerNumber r) k) (writesFrom (suc k) xs vs (writeRegister s a v .state)) .state .sp)
+        (notedAll (take (cond (isRegister r) (suc (leading xs)) 0) (a ∷ xs)) (take (cond (isRegister r) (suc (leading xs)) 0) (v ∷ vs)))
+    at (Sp r) p = p
+    at (Dp r) p = p
+    at Misaligned p = none-several (s .sp)
+    at Unmapped p = none-several (s .sp)
+
+burst-several : (xs vs : List ℕ) (f : Words32 vs) (s : State) → sound s ≡ true
+    → Several (lengthsOf (bursts xs vs f)) (s .sp) (writeRegisters s xs vs .state .sp) (note (bursts xs vs f))
+unfolding burstRefusal lengthsAmong notedAll
+burst-several xs vs f s h = at (burstAllowed xs vs) refl
+  where
+    at : (b : Bool) → burstAllowed xs vs ≡ b
+        → Several (lengthsAmong (take (cond b (leading xs) 0) xs)) (s .sp) (writeRegisters s xs vs .state .sp)
+        (notedAll (take (cond b (leading xs) 0) xs) (take (cond b (leading xs) 0) vs))
+    at true a = rw (burst-begins s xs vs (not-declined s xs vs a h)) (writes-several 0 xs vs s f (allowed xs vs a .0) h)
+    at false a = rw (burst-declined s xs vs 10 (rw a)) (none-several (s .sp))
+
+-- ---- What each call of a trace does
+
+effect : (e : Event) (s : State) → sound s ≡ true → Effect e s
+unfolding readRegister tick break acknowledge dpTurn consumerTurn
+effect (reads a) s h = still refl refl (quiet (accessRefusal s a) s (readAt (registerAt a) s) (read-still (registerAt a) s))
+effect (writes a v f) s h = write-effect a v f s h
+effect (bursts xs vs f) s h = several refl (burst-several xs vs f s h)
+effect (ticks n) s h = still refl refl (quiet (stateRefusal s) s _ (nothing (s .sp)))
+effect breaks s h = still refl refl (quiet (stateRefusal s) s _ (others (s .sp) (spBreak (s .sp)) (search) refl refl))
+effect acknowledges s h = still refl refl (quiet (stateRefusal s) s _ (nothing (s .sp)))
+effect (spTurnOver m) s h = turned refl (turn-moves s m) (λ w. refl)
+effect (spRowOver m) s h = turned refl (row-moves s m) (λ w. refl)
+effect (dpTurnOver rdram dmem) s h = still refl refl (quiet (dpRefusal s rdram dmem) s _ (nothing (s .sp)))
+effect consumerTurns s h = still refl refl (quiet (stateRefusal s) s _ (nothing (s .sp)))
+effect (runOver a b c m out) s h = turned refl (run-moves s a b c m out) (λ w. refl)
+
+-- Every call leaves a sound state
+pub event-kept : (e : Event) (s : State) → sound s ≡ true → sound (eventLeaves e s) ≡ true
+event-kept (reads a) s h = read-kept s a h
+event-kept (writes a v f) s h = write-kept s a v f h
+event-kept (bursts xs vs f) s h = burst-kept s xs vs f h
+event-kept (ticks n) s h = tick-kept s n h
+event-kept breaks s h = break-kept s h
+event-kept acknowledges s h = acknowledge-kept s h
+event-kept (spTurnOver m) s h = sp-turn-kept s m h
+event-kept (spRowOver m) s h = sp-row-kept s m h
+event-kept (dpTurnOver rdram dmem) s h = dp-turn-kept s rdram dmem h
+event-kept consumerTurns s h = consumer-turn-kept s h
+event-kept (runOver a b c m out) s h = run-kept s a b c m out h
+
+event-holds : (e : Event) (s : State) → sound s ≡ true → (w : Written) → Holds w (s .sp) → Holds (note e w) (eventLeaves e s .sp)
+event-holds e s h = effect-holds e s (effect e s h)
+
+trace-holds : (es : List Event) (s : State) → sound s ≡ true → (w : Written) → Holds w (s .sp) → Holds (lastWritten es w) (traceLeaves es s .sp)
+unfolding lastWritten traceLeaves
+trace-holds [] s h w g = g
+trace-holds (e ∷ es) s h w g = trace-holds es (eventLeaves e s) (event-kept e s h) (note e w) (event-holds e s h w g)
+
+event-uses : (e : Event) (s : State) → sound s ≡ true → Uses (lengthsOf e) (s .sp) (eventLeaves e s .sp)
+event-uses e s h = effect-uses e s (facts s h .sp) (effect e s h)
 
 -- A trace begins no more transfers than length words were written in it, and one more where one waited before
 pub begun-at-most : (es : List Event) (s : State) → sound s ≡ true
@@ -433,7 +586,7 @@ unfolding begun traceLeaves lengthWrites
 begun-at-most [] s h = omega arith
 begun-at-most (e ∷ es) s h =
     chain (asBit (begins (s .sp) (eventLeaves e s .sp))) (begun es (eventLeaves e s)) (asBit (traceLeaves es (eventLeaves e s) .sp .full))
-    (asBit (eventLeaves e s .sp .full)) (asBit (isLength e)) (lengthWrites es) (asBit (s .sp .full))
+    (asBit (eventLeaves e s .sp .full)) (lengthsOf e) (lengthWrites es) (asBit (s .sp .full))
     (event-uses e s h)
     (begun-at-most es (eventLeaves e s) (event-kept e s h))
   where
@@ -571,25 +724,13 @@ same-after (suc n) s t h b more p =
     let k = goes-on s h b (omega arith) in
     same-after n (spNext s) (spNext t) (next-kept s h) (k .busy) (omega (arith, k .words)) (same-next s t h b (omega arith) p)
 
-same-again : (s t u : SpState) → SameTransfer s t → SameTransfer t u → SameTransfer s u
-same-again s t u p q = record {
-  spaddr = p .spaddr ∙ q .spaddr;
-  ramaddr = p .ramaddr ∙ q .ramaddr;
-  len = p .len ∙ q .len;
-  count = p .count ∙ q .count;
-  skip = p .skip ∙ q .skip;
-  row = p .row ∙ q .row;
-  storing = p .storing ∙ q .storing;
-  busy = p .busy ∙ q .busy;
-}
-
 -- ---- Along the trace
 
 -- One call while the running transfer has words to move after it
 record Step (e : Event) (s : State) : Type 0 where
   busy : eventLeaves e s .sp .busy ≡ true
   left : movesOf e s + runningWords (eventLeaves e s .sp) ≡ runningWords (s .sp)
-  full : eventLeaves e s .sp .full ≡ (s .sp .full || isLength e)
+  full : eventLeaves e s .sp .full ≡ (s .sp .full || ltb 0 (lengthsOf e))
   same : SameTransfer (eventLeaves e s .sp) (spAfter (movesOf e s) (s .sp))
 
 step : (e : Event) (s : State) → sound s ≡ true → s .sp .busy ≡ true → movesOf e s < runningWords (s .sp) → Step e s
@@ -597,22 +738,19 @@ unfolding spAfter
 step e s h b more = go (effect e s h)
   where
     -- No word is moved
-    stays : movesOf e s ≡ 0 → SameTransfer (eventLeaves e s .sp) (s .sp) → eventLeaves e s .sp .full ≡ (s .sp .full || isLength e) → Step e s
-    stays m p f = record {
-      busy = p .busy ∙ b;
-      left = omega (arith, m, same-words (eventLeaves e s .sp) (s .sp) p);
-      full = f;
-      same = rw m p;
-    }
-
-    waits : (v : ℕ) (storing : Bool) → SameTransfer (withWaiting (s .sp) v storing) (s .sp)
-    waits v storing = search
+    stays : movesOf e s ≡ 0 → Effect e s → Step e s
+    stays m k =
+        let w = effect-waits e s m b k in
+        record {
+          busy = w .0 .busy ∙ b;
+          left = omega (arith, m, same-words (eventLeaves e s .sp) (s .sp) (w .0));
+          full = w .1;
+          same = rw m (w .0);
+        }
 
     go : Effect e s → Step e s
-    go (still l m k) = stays m (k .same) (k .full ∙ rw l (sym (or-false (s .sp .full))))
-    go (wrote v storing l m p q) =
-        let w = p ∙ length-busy (s .sp) v storing b in
-        stays m (rw w (waits v storing)) (ap (λ (t : SpState). t .full) w ∙ rw l (sym (or-true (s .sp .full))))
+    go (still l m k) = stays m (still l m k)
+    go (wrote v storing l m p q) = stays m (wrote v storing l m p q)
     go (turned l p q) =
         let k : GoesOn (movesOf e s) (s .sp) (eventLeaves e s .sp) = rw p (after-goes-on (movesOf e s) (s .sp) (facts s h .sp) b more) in
         record {
@@ -621,6 +759,7 @@ step e s h b more = go (effect e s h)
           full = k .full ∙ rw l (sym (or-false (s .sp .full)));
           same = rw p (same-transfer (spAfter (movesOf e s) (s .sp)));
         }
+    go (several m k) = stays m (several m k)
 
 -- Nothing begins in a busy engine whose FULL does not go off
 busy-begins : (s t : SpState) (new : Bool) → s .busy ≡ true → t .full ≡ (s .full || new) → begins s t ≡ false
@@ -640,7 +779,7 @@ record Along (es : List Event) (s t : State) : Type 0 where
   same : SameTransfer (t .sp) (spAfter (moves es s) (s .sp))
 
 along : (es : List Event) (s : State) → sound s ≡ true → s .sp .busy ≡ true → moves es s < runningWords (s .sp) → Along es s (traceLeaves es s)
-unfolding traceLeaves moves begun writesLength spAfter
+unfolding traceLeaves moves begun lengthWrites spAfter
 along [] s h b more =
     record { isSound = h; busy = b; left = omega arith; none = refl; full = sym (or-false (s .sp .full)); same = same-transfer (s .sp) }
 along (e ∷ es) s h b more =
@@ -651,8 +790,11 @@ along (e ∷ es) s h b more =
       isSound = rest .isSound;
       busy = rest .busy;
       left = omega (arith, rest .left, now .left);
-      none = rw (busy-begins (s .sp) (t .sp) (isLength e) b (now .full)) (omega (arith, rest .none));
-      full = rest .full ∙ ap (λ (x : Bool). x || writesLength es) (now .full) ∙ or-assoc (s .sp .full) (isLength e) (writesLength es);
+      none = rw (busy-begins (s .sp) (t .sp) (ltb 0 (lengthsOf e)) b (now .full)) (omega (arith, rest .none));
+      full = rest .full
+          ∙ ap (λ (x : Bool). x || writesLength es) (now .full)
+          ∙ or-assoc (s .sp .full) (ltb 0 (lengthsOf e)) (writesLength es)
+          ∙ ap (λ (x : Bool). s .sp .full || x) (sym (some-add (lengthsOf e) (lengthWrites es)));
       same =
           rw (after-add (movesOf e s) (moves es t) (s .sp))
           (same-again (traceLeaves es t .sp) (spAfter (moves es t) (t .sp)) (spAfter (moves es t) (spAfter (movesOf e s) (s .sp)))
@@ -682,15 +824,7 @@ last-turn s b l c = go (cases s)
 
 -- A trace that writes no length word
 none-written : (es : List Event) → writesLength es ≡ false → lengthWrites es ≡ 0
-unfolding writesLength lengthWrites
-none-written [] e = refl
-none-written (e ∷ es) p =
-    let q = neither (isLength e) (writesLength es) p in
-    omega (arith, ap asBit (q .0), none-written es (q .1))
-  where
-    neither : (a b : Bool) → (a || b) ≡ false → (a ≡ false) × (b ≡ false)
-    neither true b e = contradiction refl e
-    neither false b e = (refl, e)
+none-written es e = omega (arith, ltb-false 0 (lengthWrites es) e)
 
 -- The waiting transfer begins in the turn that ends the running one, from what was last written, and once
 pub begins-once : (s : State) (es : List Event) (m : Memory) → Before s es m → BeginsOnce s es m

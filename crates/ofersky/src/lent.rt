@@ -1,4 +1,4 @@
-// The calls that are lent memory.
+// The calls that are lent memory or lists.
 use crate::states::decoded;
 use crate::states::handed;
 use host::HostOutcome;
@@ -15,8 +15,22 @@ ghost use Rattle.machine.specs.Turns.{spTurn, spTurnMemory, dpTurn};
 ghost use Rattle.machine.specs.Runs.{endOfRun, run};
 ghost use Rattle.machine.specs.Rows.{spRow, spRowMemory};
 ghost use Rattle.machine.specs.Look.{look};
+ghost use Rattle.bursts.specs.Bursts.{writeRegisters};
 ghost use Rattle.host.specs.States.{decoded, handed, ranHanded};
 ghost use Rattle.host.specs.Parts.{placed, partHanded};
+
+// A host hands over two lengths, so that unequal ones can come in.
+#[no_mangle]
+pub extern "C" fn ofersky_write_registers(
+    s: HostState,
+    addresses: &[u32],
+    values: &[u32],
+) -> HostOutcome
+    ensures outcome { λ r. ⌜ r ≡ handed s (writeRegisters (decoded s) (now (addresses .entry)) (now (values .entry))) ⌝ }
+    ensures kept { λ _. ⌜ (now (addresses .exit) ≡ now (addresses .entry)) × (now (values .exit) ≡ now (values .entry)) ⌝ }
+{
+    handed(s, access::write_registers(decoded(s), addresses, values))
+}
 
 #[no_mangle]
 pub extern "C" fn ofersky_sp_turn(

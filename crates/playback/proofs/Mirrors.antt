@@ -9,7 +9,7 @@ use lib.ListN.{length, length-append, length-map}
 use Rattle.words.specs.Bits.{asBit}
 use Rattle.machine.specs.declared.Outcome.{Outcome}
 use Rattle.machine.specs.Address.{firstCopy}
-use Rattle.machine.specs.Refusals.{check, spRefusal}
+use Rattle.machine.specs.Refusals.{check, spRefusal, ending}
 use Rattle.machine.specs.Calls.{readRegister}
 use Rattle.machine.proofs.Refusals.{if-accepted, if-refused}
 use Rattle.machine.proofs.Mirrors.{read-mirrored, write-mirrored}
@@ -25,7 +25,7 @@ use Rattle.recording.proofs.Mirrors.{read-at-first-copy}
 use Rattle.listing.specs.Text.{Text, letterR, foundLine}
 use Rattle.playback.specs.Effects.{withState, after, line}
 use Rattle.playback.specs.Findings.{compares, differs, total, firstFrom, one, findings}
-use Rattle.playback.specs.Replay.{Played, afterAll, lines, lastLine, ending, played, notPlayed, headed, replayRefusal, replay}
+use Rattle.playback.specs.Replay.{Played, afterAll, lines, lastLine, played, notPlayed, headed, replayRefusal, replay}
 use Rattle.playback.specs.Mirrors.{SameLines, SameListing, performed, EveryReplayAtFirstCopy}
 use Rattle.playback.specs.Mirrors.SameLines.{last, reads, others}
 use Rattle.playback.specs.Mirrors.SameListing.{afterHeader}

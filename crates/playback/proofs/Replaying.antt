@@ -13,7 +13,7 @@ use Rattle.words.proofs.Tests.{by}
 use Rattle.machine.specs.declared.State.{State}
 use Rattle.machine.specs.declared.Outcome.{Outcome}
 use Rattle.machine.specs.Sound.{sound}
-use Rattle.machine.specs.Refusals.{check, rdramAllowed, bankAllowed, spRefusal, declined, ifRefused}
+use Rattle.machine.specs.Refusals.{check, rdramAllowed, bankAllowed, spRefusal, declined, ending, ifRefused}
 use Rattle.machine.proofs.Refusals.{if-accepted, if-refused}
 use Rattle.laws.specs.World.{World, world}
 use Rattle.recording.specs.declared.Record.{Record}
@@ -26,7 +26,7 @@ use Rattle.listing.specs.Text.{Text, header, stopLine}
 use Rattle.playback.specs.declared.Replayed.{Replayed}
 use Rattle.playback.specs.declared.Findings.{Findings}
 use Rattle.playback.specs.Findings.{differed, one, findings, noFindings}
-use Rattle.playback.specs.Replay.{Played, afterAll, lines, lastLine, ending, replayRefusal, replay}
+use Rattle.playback.specs.Replay.{Played, afterAll, lines, lastLine, replayRefusal, replay}
 use Rattle.playback.specs.Promised.{ReplayGives}
 use Rattle.playback.specs.Theorems.{SameLeft, Begun, longestListing, EveryReplay}
 use Rattle.playback.proofs.Found.{no-first, first-differs}

@@ -8,7 +8,7 @@ use native.Mathlib.Nat.{add-zero, zero-add}
 use lib.ListN.{length}
 use Rattle.words.specs.Memory.{Memory}
 use Rattle.machine.specs.declared.State.{State}
-use Rattle.machine.specs.Refusals.{ifRefused}
+use Rattle.machine.specs.Refusals.{ending, ifRefused}
 use Rattle.machine.proofs.Refusals.{if-accepted, if-refused}
 use Rattle.laws.specs.World.{World, world}
 use Rattle.recording.specs.declared.Record.{Record}
@@ -25,7 +25,7 @@ use Rattle.playback.specs.declared.Findings.{Findings}
 use Rattle.playback.specs.declared.Replayed.{Replayed}
 use Rattle.playback.specs.Effects.{after, line}
 use Rattle.playback.specs.Findings.{compares, differs, noFindings}
-use Rattle.playback.specs.Replay.{Played, afterAll, lines, lastLine, ending, played, notPlayed, headed, replayRefusal, replay}
+use Rattle.playback.specs.Replay.{Played, afterAll, lines, lastLine, played, notPlayed, headed, replayRefusal, replay}
 use Rattle.playback.specs.Promised.{ReplayGives, PerformGives, noted, PlayGives}
 use Rattle.playback.proofs.Found.{foundAfter, noted-then, Quiet, noted-all, noted-none}
 

@@ -4,9 +4,8 @@ use mathlib.Core.List.{List, [], _∷_, _++_}
 use lib.Dec.{leb}
 use lib.ListN.{length}
 use Rattle.words.specs.Memory.{Memory}
-use Rattle.machine.specs.declared.State.{State}
 use Rattle.machine.specs.declared.Outcome.{Outcome}
-use Rattle.machine.specs.Refusals.{check, spRefusal, declined, ifRefused}
+use Rattle.machine.specs.Refusals.{check, spRefusal, declined, ending, ifRefused}
 use Rattle.laws.specs.World.{World}
 use Rattle.recording.specs.declared.Record.{Record}
 use Rattle.recording.specs.Reader.{longest}
@@ -38,9 +37,6 @@ pub record Played : Type 0 where
   pub findings : Findings
   pub memory : Memory
   pub text : Text
-
-abbrev pub ending : State → ℕ → ℕ → Outcome
-ending s number count = record { state = s; answer = record { number = number; value = 0; count = count } }
 
 -- The accepted records are performed. What the declined one would do is not done
 abbrev pub played : Split → World → Played

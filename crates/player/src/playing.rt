@@ -1,12 +1,11 @@
 // The records of a recording, one after the other.
 use crate::effects::perform;
 use checks::check;
+use checks::ending;
 use checks::sp_refusal;
 use lines::put_end;
 use lines::put_header;
 use lines::put_stop;
-use machine::Answer;
-use machine::Outcome;
 use machine::State;
 use playback::Findings;
 use playback::Replayed;
@@ -15,10 +14,11 @@ ghost use mathlib.Core.Path.{_≡_};
 ghost use Prim.Native.Nat.{_≤_, _<_};
 ghost use lib.ListN.{length};
 ghost use Rattle.words.specs.Memory.{memory};
+ghost use Rattle.machine.specs.Refusals.{ending};
 ghost use Rattle.laws.specs.World.{world};
 ghost use Rattle.recording.specs.Split.{split};
 ghost use Rattle.playback.specs.Findings.{noFindings};
-ghost use Rattle.playback.specs.Replay.{ending, replayRefusal};
+ghost use Rattle.playback.specs.Replay.{replayRefusal};
 ghost use Rattle.playback.specs.Promised.{noted, PlayGives, ReplayGives};
 
 fn replayed(
@@ -31,14 +31,8 @@ fn replayed(
 ) -> Replayed
     ensures { λ r. ⌜ (r .outcome ≡ ending state number count) × (r .written ≡ written) × (r .place ≡ place) × (r .findings ≡ findings) ⌝ }
 {
-    let answer = Answer {
-        number,
-        value: 0,
-        count,
-    };
-    let outcome = Outcome { state, answer };
     Replayed {
-        outcome,
+        outcome: ending(state, number, count),
         written,
         place,
         findings,

@@ -1,5 +1,5 @@
 //! An earlier library, under the names that build.rs gives its calls. It is one with the queue and a run of three budgets, so that its structs are ours, and it
-//! need not have rows.
+//! need not have rows or bursts.
 
 use crate::buffers::Buffers;
 use crate::library::Library;
@@ -85,6 +85,7 @@ pub static BEFORE: Library = Library {
     consumer_turn: |state| unsafe { before_consumer_turn(state) },
     read_register: |state, address| unsafe { before_read_register(state, address) },
     write_register: |state, address, value| unsafe { before_write_register(state, address, value) },
+    write_registers: single_writes,
     replay: |state, recording, rdram, dmem, imem, out| {
         let s = shared(recording);
         let [r, d, i, o] = [rdram, dmem, imem, out].map(lent);
@@ -97,4 +98,17 @@ fn run_row(ran: &mut Ran, b: &mut Buffers) {
     let state = &ran.outcome.state;
     let words = u32::from(state.sp.busy) * (state.sp.len / 8 + 1);
     *ran = black_box(&BEFORE).run(*state, [words, 0, 0], b);
+}
+
+/// A call for each pair of a burst.
+fn single_writes(state: State, addresses: &[u32], values: &[u32]) -> Outcome {
+    let mut done = Outcome {
+        state,
+        ..Outcome::default()
+    };
+    for (address, value) in addresses.iter().zip(values) {
+        done = (black_box(&BEFORE).write_register)(done.state, *address, *value);
+    }
+    done.answer.count = addresses.len() as u32;
+    done
 }

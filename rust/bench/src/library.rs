@@ -15,6 +15,7 @@ pub struct Library {
     pub consumer_turn: fn(State) -> Outcome,
     pub read_register: fn(State, u32) -> Outcome,
     pub write_register: fn(State, u32, u32) -> Outcome,
+    pub write_registers: fn(State, &[u32], &[u32]) -> Outcome,
     pub replay: fn(State, &[u8], &mut [u8], &mut [u8], &mut [u8], &mut [u8]) -> Replayed,
 }
 
@@ -26,6 +27,7 @@ pub static OURS: Library = Library {
     consumer_turn: ofersky::consumer_turn,
     read_register: ofersky::read_register,
     write_register: ofersky::write_register,
+    write_registers: ofersky::write_registers,
     replay: ofersky::replay,
 };
 

@@ -14,8 +14,8 @@ mod timing;
 use timing::{Aim, Column, Line};
 
 fn main() {
-    println!("Nanoseconds a word (for turns and registers a call, for recordings a record): the fastest of interleaved rounds on this machine.");
-    println!("Plain Rust is the same loop, turn by turn, without checks of its input. Copy is copy_from_slice of as many bytes, for registers of a state.");
+    println!("Nanoseconds a word (for turns and registers a call, for bursts a write, for recordings a record): the fastest of interleaved rounds on this machine.");
+    println!("Plain Rust is the same loop, turn by turn, without checks of its input. Copy is copy_from_slice of as many bytes, for registers and bursts of a state.");
     println!("The DMA loop moves the rows of a transfer word by word, and does the registers once for each row.");
     table(
         &[Column::Ours, Column::Plain, Column::Dma, Column::Copy],
@@ -27,9 +27,15 @@ fn main() {
         &[Column::Plain],
         cases::others,
     );
+    println!("\nSingle calls are as many of write_register, with the same addresses and values.");
+    table(
+        &[Column::Ours, Column::Singly, Column::Plain, Column::Copy],
+        &[Column::Singly, Column::Plain],
+        cases::bursts,
+    );
     #[cfg(before)]
     {
-        println!("\nBefore is the library that OFERSKY_BEFORE names; for sp_row, its run of as many words.");
+        println!("\nBefore is the library that OFERSKY_BEFORE names; for sp_row, its run of as many words, and for a burst its single calls.");
         table(
             &[Column::Ours, Column::Before, Column::Plain],
             &[Column::Before],

@@ -25,6 +25,8 @@ fn lower<const BYTES: usize>(call: Timed) -> f64 {
 #[derive(Clone, Copy, PartialEq)]
 pub enum Column {
     Ours,
+    /// A call for each register write of a burst.
+    Singly,
     /// An earlier library.
     Before,
     Plain,
@@ -37,6 +39,7 @@ impl Column {
     pub fn name(self) -> &'static str {
         match self {
             Column::Ours => "ours",
+            Column::Singly => "single calls",
             Column::Before => "before",
             Column::Plain => "plain Rust",
             Column::Dma => "DMA loop",

@@ -15,6 +15,11 @@ pub enum Call {
         address: u32,
         value: u32,
     },
+    /// A burst. The lengths may differ.
+    WriteRegisters {
+        addresses: Vec<u32>,
+        values: Vec<u32>,
+    },
     Tick {
         n: u32,
     },
@@ -59,11 +64,12 @@ pub struct Case {
 }
 
 /// The names of the calls, in the order of `Call::index`.
-pub const NAMES: [&str; 17] = [
+pub const NAMES: [&str; 18] = [
     "power_up",
     "is_sound",
     "read_register",
     "write_register",
+    "write_registers",
     "tick",
     "sp_break",
     "acknowledge",
@@ -86,19 +92,20 @@ impl Call {
             Call::IsSound => 1,
             Call::Read { .. } => 2,
             Call::Write { .. } => 3,
-            Call::Tick { .. } => 4,
-            Call::Break => 5,
-            Call::Acknowledge => 6,
-            Call::SpTurn => 7,
-            Call::SpRow => 8,
-            Call::DpTurn => 9,
-            Call::ConsumerTurn => 10,
-            Call::Run { .. } => 11,
-            Call::Look => 12,
-            Call::ReadRecord { .. } => 13,
-            Call::WriteRecord { .. } => 14,
-            Call::Replay { .. } => 15,
-            Call::Verdict { .. } => 16,
+            Call::WriteRegisters { .. } => 4,
+            Call::Tick { .. } => 5,
+            Call::Break => 6,
+            Call::Acknowledge => 7,
+            Call::SpTurn => 8,
+            Call::SpRow => 9,
+            Call::DpTurn => 10,
+            Call::ConsumerTurn => 11,
+            Call::Run { .. } => 12,
+            Call::Look => 13,
+            Call::ReadRecord { .. } => 14,
+            Call::WriteRecord { .. } => 15,
+            Call::Replay { .. } => 16,
+            Call::Verdict { .. } => 17,
         }
     }
 
@@ -124,11 +131,20 @@ impl Call {
         self.takes_memory() || matches!(self, Call::WriteRecord { .. })
     }
 
-    /// Does a refusal by this number give the state back as handed in? All do, but those that stop a replay at a record.
+    /// Does a refusal by this number give the state back as handed in? All do, but those that stop a replay at a record or a burst at a pair.
     pub fn keeps_state(&self, number: u32) -> bool {
         match self {
             Call::Replay { .. } => matches!(number, 1..=4 | 9),
+            Call::WriteRegisters { .. } => matches!(number, 4 | 11),
             _ => number != 0,
+        }
+    }
+
+    /// The addresses and the values that a burst is lent, none where it is another call.
+    pub fn pairs(&self) -> [&[u32]; 2] {
+        match self {
+            Call::WriteRegisters { addresses, values } => [addresses, values],
+            _ => [&[]; 2],
         }
     }
 

@@ -1,5 +1,6 @@
 //! Single calls made at random.
 
+use crate::bursts::any_burst;
 use crate::call::{Call, Case};
 use crate::memory::{rdram_length, Lent, BANK};
 use crate::random::Random;
@@ -7,11 +8,12 @@ use crate::values::*;
 use ofersky::State;
 
 /// The kinds of call that act on a state, for `call_of`.
-pub const ON_A_STATE: usize = 12;
+pub const ON_A_STATE: usize = 13;
 
-/// The first of them that takes memory, and the run.
-pub const ON_MEMORY: usize = 7;
-pub const RUN: usize = 10;
+/// The first of them that names no register, the first that takes memory, and the run.
+pub const NO_REGISTER: usize = 4;
+pub const ON_MEMORY: usize = 8;
+pub const RUN: usize = 11;
 
 /// A call of this kind, with arguments that suit the state.
 pub fn call_of(random: &mut Random, kind: usize, state: &State, rdram: usize) -> Call {
@@ -25,13 +27,14 @@ pub fn call_of(random: &mut Random, kind: usize, state: &State, rdram: usize) ->
             let value = value_for(random, address, rdram);
             Call::Write { address, value }
         }
-        3 => Call::Tick { n: ticks(random) },
-        4 => Call::Break,
-        5 => Call::Acknowledge,
-        6 => Call::ConsumerTurn,
+        3 => any_burst(random, rdram),
+        NO_REGISTER => Call::Tick { n: ticks(random) },
+        5 => Call::Break,
+        6 => Call::Acknowledge,
+        7 => Call::ConsumerTurn,
         ON_MEMORY => Call::SpTurn,
-        8 => Call::SpRow,
-        9 => Call::DpTurn,
+        9 => Call::SpRow,
+        10 => Call::DpTurn,
         RUN => run_of(random, state),
         _ => Call::Look,
     }

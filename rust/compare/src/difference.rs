@@ -8,6 +8,9 @@ use ofersky::{Findings, Part, Reading};
 /// The memories in the order of `Seen::bytes`.
 const MEMORIES: [&str; 5] = ["RDRAM", "DMEM", "IMEM", "output", "next word"];
 
+/// What a burst is lent, in the order of `Seen::pairs`.
+const PAIRS: [&str; 2] = ["addresses", "values"];
+
 /// One line for each part that differs, none where both sides agree.
 pub fn differences(expected: &Seen, given: &Seen) -> Vec<String> {
     if expected == given {
@@ -24,6 +27,9 @@ pub fn differences(expected: &Seen, given: &Seen) -> Vec<String> {
     }
     for (name, (expected, given)) in MEMORIES.iter().zip(expected.bytes.iter().zip(&given.bytes)) {
         lines.extend(bytes(name, expected, given));
+    }
+    for (name, (expected, given)) in PAIRS.iter().zip(expected.pairs.iter().zip(&given.pairs)) {
+        lines.extend(first_number(name, expected, given));
     }
     lines
 }
@@ -108,6 +114,15 @@ fn bytes(name: &str, expected: &[u8], given: &[u8]) -> Option<String> {
         hex(&expected[first..last]),
         hex(&given[first..last]),
         places.len()
+    ))
+}
+
+/// The first number of a burst that differs from the one that was lent.
+fn first_number(name: &str, expected: &[u32], given: &[u32]) -> Option<String> {
+    let mut both = expected.iter().zip(given).enumerate();
+    let (i, (expected, given)) = both.find(|(_, (expected, given))| expected != given)?;
+    Some(format!(
+        "{name} at 0x{i:X}: expected 0x{expected:08X} by the model, given 0x{given:08X} by the library"
     ))
 }
 

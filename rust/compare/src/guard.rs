@@ -1,39 +1,42 @@
-//! Memory lent with bytes before and after it that no call may touch, and at every alignment.
+//! Memory lent with bytes before and after it that no call may touch, and at every alignment. The 32-bit numbers of a burst are lent so, too.
 
-/// The bytes on each side.
+/// The items on each side, and what they are. As addresses both are refused.
 const GUARD: usize = 64;
+const BEFORE: u8 = 0xC3;
+const AFTER: u8 = 0x3C;
 
 /// A memory between its guards.
-pub struct Guarded {
-    bytes: Vec<u8>,
+pub struct Guarded<T> {
+    items: Vec<T>,
     from: usize,
     length: usize,
 }
 
-impl Guarded {
-    /// The memory stands `shift` bytes after the place where it would stand otherwise.
-    pub fn new(memory: &[u8], shift: usize) -> Guarded {
+impl<T: Copy + From<u8> + PartialEq> Guarded<T> {
+    /// The memory stands `shift` items after the place where it would stand otherwise.
+    pub fn new(memory: &[T], shift: usize) -> Guarded<T> {
         let from = GUARD + shift;
-        let mut bytes = Vec::with_capacity(from + memory.len() + GUARD);
-        bytes.resize(from, 0xC3);
-        bytes.extend_from_slice(memory);
-        bytes.resize(from + memory.len() + GUARD, 0x3C);
+        let mut items = Vec::with_capacity(from + memory.len() + GUARD);
+        items.resize(from, BEFORE.into());
+        items.extend_from_slice(memory);
+        items.resize(from + memory.len() + GUARD, AFTER.into());
         Guarded {
-            bytes,
+            items,
             from,
             length: memory.len(),
         }
     }
 
-    pub fn lent(&mut self) -> &mut [u8] {
-        &mut self.bytes[self.from..self.from + self.length]
+    pub fn lent(&mut self) -> &mut [T] {
+        &mut self.items[self.from..self.from + self.length]
     }
 
-    /// Are the bytes on both sides as before?
+    /// Are the items on both sides as before?
     pub fn is_whole(&self) -> bool {
-        let (before, rest) = self.bytes.split_at(self.from);
+        let (before, rest) = self.items.split_at(self.from);
         let after = &rest[self.length..];
-        before.iter().all(|byte| *byte == 0xC3) && after.iter().all(|byte| *byte == 0x3C)
+        let all = |items: &[T], byte: u8| items.iter().all(|item| *item == byte.into());
+        all(before, BEFORE) && all(after, AFTER)
     }
 }
 
@@ -45,8 +48,8 @@ mod tests {
     #[test]
     fn bytes_beside_the_memory_are_seen() {
         for (at, whole) in [(66, false), (67, true), (74, true), (75, false)] {
-            let mut guarded = Guarded::new(&[0; 8], 3);
-            guarded.bytes[at] ^= 1;
+            let mut guarded = Guarded::new(&[0u8; 8], 3);
+            guarded.items[at] ^= 1;
             assert_eq!(guarded.is_whole(), whole);
         }
     }

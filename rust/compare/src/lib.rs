@@ -3,6 +3,7 @@
 //! `cargo test --release -p compare -- --nocapture` prints what was compared. The cases are the same on every
 //! run; COMPARE_SEED=1 or any other number makes others.
 
+pub mod bursts;
 pub mod call;
 pub mod cases;
 pub mod comparison;

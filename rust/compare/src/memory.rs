@@ -27,6 +27,11 @@ impl Lent {
         }
     }
 
+    /// How far what is lent stands from where it would stand otherwise.
+    pub fn shift(&self) -> usize {
+        self.fill as usize % 8
+    }
+
     /// RDRAM, DMEM and IMEM.
     pub fn bytes(&self) -> [Vec<u8>; 3] {
         [

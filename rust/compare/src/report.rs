@@ -41,8 +41,26 @@ pub fn describe(case: &Case) -> String {
         text += &format!("recording of {} bytes: {shown}\n", recording.len());
         text += &readable(recording);
     }
+    text += &pairs(case.call.pairs());
     if let Call::WriteRecord { buffer, .. } = &case.call {
         text += &format!("buffer of {} bytes: {}\n", buffer.len(), bytes(buffer));
+    }
+    text
+}
+
+/// One line a pair of a burst. Of a very long one, the first ones.
+fn pairs([addresses, values]: [&[u32]; 2]) -> String {
+    let mut text = String::new();
+    let all = addresses.len().max(values.len());
+    for i in 0..all.min(70) {
+        let address = addresses.get(i).map(|address| address_name(*address));
+        let address = address.unwrap_or("no address".to_string());
+        let value = values.get(i).map(|value| format!("0x{value:08X}"));
+        let value = value.unwrap_or("no value".to_string());
+        text += &format!("  {address}, {value}\n");
+    }
+    if all > 70 {
+        text += &format!("  and {} more\n", all - 70);
     }
     text
 }
@@ -59,6 +77,11 @@ fn arguments(call: &Call) -> String {
     match call {
         Call::Read { address } => format!(" {}", address_name(*address)),
         Call::Write { address, value } => format!(" {} 0x{value:08X}", address_name(*address)),
+        Call::WriteRegisters { addresses, values } => format!(
+            " of {} addresses and {} values",
+            addresses.len(),
+            values.len()
+        ),
         Call::Tick { n } => format!(" 0x{n:X}"),
         Call::Run {
             budgets: [sp, dp, consumer],

@@ -25,10 +25,12 @@ pub struct Seen {
     /// The verdict of a replay: its code, and what the wrapper makes of that.
     pub code: u32,
     pub verdict: Option<Verdict>,
-    /// A byte beside a lent memory or output was changed.
+    /// A byte beside a lent memory or output was changed, or a number beside the pairs.
     pub outside: bool,
     /// The bytes of RDRAM, DMEM, IMEM, of the output or the buffer, and those of the next word after a look.
     pub bytes: [Vec<u8>; 5],
+    /// The addresses and the values that a burst was lent.
+    pub pairs: [Vec<u32>; 2],
 }
 
 /// A side of the comparison.
@@ -44,6 +46,7 @@ impl Seen {
         };
         Seen {
             bytes: [rdram, dmem, imem, case.call.output(), Vec::new()],
+            pairs: case.call.pairs().map(<[u32]>::to_vec),
             ..Seen::default()
         }
     }
@@ -69,6 +72,13 @@ impl Seen {
         } = ran;
     }
 
+    /// The model's run.
+    fn run_by_model(&mut self, case: &Case, s: &calls::State, [sp, dp, consumer]: [u32; 3]) {
+        let [rdram, dmem, imem, out, _] = &mut self.bytes;
+        let ran = calls::run(s, sp, dp, consumer, rdram, dmem, imem, out);
+        (self.outcome, self.words) = (given(case, ran.outcome), ran.words);
+    }
+
     /// All that a replay gives.
     fn take(&mut self, replayed: Replayed) {
         Replayed {
@@ -86,6 +96,15 @@ impl Seen {
         if part_of(&self.part, rdram, dmem).is_some() {
             self.bytes[4] = ofersky::next_word(state, rdram, dmem).to_vec();
         }
+    }
+
+    /// The library's burst over pairs between other numbers. It may read the pairs alone, and change none.
+    fn burst(&mut self, state: State, shift: usize) {
+        let mut guarded = [0, 1].map(|i| Guarded::new(&self.pairs[i], shift));
+        let [addresses, values] = guarded.each_mut().map(Guarded::lent);
+        self.outcome = ofersky::write_registers(state, addresses, values);
+        self.pairs = guarded.each_mut().map(|guarded| guarded.lent().to_vec());
+        self.outside = !guarded.iter().all(Guarded::is_whole);
     }
 
     /// The library's verdict.
@@ -114,7 +133,7 @@ pub fn library_with_ring(case: &Case) -> Seen {
         call_library(case, &mut seen, [&mut [], &mut [], &mut [], &mut []]);
         return seen;
     }
-    let shift = case.lent.fill as usize % 8;
+    let shift = case.lent.shift();
     let [rdram, dmem, imem, out, _] = &seen.bytes;
     let mut guarded = [rdram, dmem, imem, out].map(|bytes| Guarded::new(bytes, shift));
     call_library(case, &mut seen, guarded.each_mut().map(Guarded::lent));
@@ -136,6 +155,7 @@ fn call_library(case: &Case, seen: &mut Seen, lent: [&mut [u8]; 4]) {
         Call::Write { address, value } => {
             seen.outcome = ofersky::write_register(s, *address, *value)
         }
+        Call::WriteRegisters { .. } => seen.burst(s, case.lent.shift()),
         Call::Tick { n } => seen.outcome = ofersky::tick(s, *n),
         Call::Break => seen.outcome = ofersky::sp_break(s),
         Call::Acknowledge => seen.outcome = ofersky::acknowledge(s),
@@ -176,6 +196,9 @@ pub fn model(case: &Case) -> Seen {
         Call::Write { address, value } => {
             seen.outcome = given(calls::write_register(s, *address, *value))
         }
+        Call::WriteRegisters { addresses, values } => {
+            seen.outcome = given(calls::write_registers(s, addresses, values))
+        }
         Call::Tick { n } => seen.outcome = given(calls::tick(s, *n)),
         Call::Break => seen.outcome = given(calls::sp_break(s)),
         Call::Acknowledge => seen.outcome = given(calls::acknowledge(s)),
@@ -183,11 +206,7 @@ pub fn model(case: &Case) -> Seen {
         Call::SpRow => seen.outcome = given(calls::sp_row(s, rdram, dmem, imem)),
         Call::DpTurn => seen.outcome = given(calls::dp_turn(s, rdram, dmem)),
         Call::ConsumerTurn => seen.outcome = given(calls::consumer_turn(s)),
-        Call::Run { budgets, .. } => {
-            let [sp, dp, consumer] = *budgets;
-            let ran = calls::run(s, sp, dp, consumer, rdram, dmem, imem, out);
-            (seen.outcome, seen.words) = (given(ran.outcome), ran.words);
-        }
+        Call::Run { budgets, .. } => seen.run_by_model(case, s, *budgets),
         Call::Look => (seen.part, *word) = looked(s, rdram, dmem),
         Call::ReadRecord { recording, place } => {
             seen.reading = reading(calls::read_record(recording, *place))

@@ -1,10 +1,11 @@
-//! Makes a case that shows a difference as small as it can: fewer records, shorter buffers, and numbers nearer to zero.
+//! Makes a case that shows a difference as small as it can: fewer records or pairs, shorter buffers, and numbers nearer to zero.
 
 use crate::call::{Call, Case};
 use crate::fields::FIELDS;
 use crate::memory::BANK;
 use crate::records::{numbers, pieces};
 use crate::verdicts::NUMBERS;
+use model::machine::DP_CURRENT;
 use std::ops::Range;
 use std::time::{Duration, Instant};
 
@@ -23,6 +24,9 @@ enum Number {
     /// A number of a struct that is judged.
     Judged(usize),
     Bytes(Range<usize>),
+    /// An address and a value of a burst.
+    Address(usize),
+    Value(usize),
     /// The bytes of a buffer before the place of the record, which moves with them.
     Before,
     /// Whether a buffer has a byte that is not zero.
@@ -47,7 +51,7 @@ pub fn shrink(case: &Case, differs: &dyn Fn(&Case) -> bool) -> Case {
         let before = best.clone();
         // Small memories first: every later try is faster with them.
         lower_numbers(&mut best, sizes(), &mut keep);
-        fewer_records(&mut best, &mut keep);
+        fewer_items(&mut best, &mut keep);
         let numbers = all_numbers(&best);
         lower_numbers(&mut best, numbers, &mut keep);
         if best == before {
@@ -58,11 +62,11 @@ pub fn shrink(case: &Case, differs: &dyn Fn(&Case) -> bool) -> Case {
 
 type Keep<'a> = dyn FnMut(&mut Case, Case) -> bool + 'a;
 
-/// Leaves records out, many at once and then one by one, from the end on: what a difference needs is mostly before it.
-fn fewer_records(best: &mut Case, keep: &mut Keep) {
-    let mut size = pieces(recording(best)).len();
+/// Leaves records or pairs out, many at once and then one by one, from the end on: what a difference needs is mostly before it.
+fn fewer_items(best: &mut Case, keep: &mut Keep) {
+    let mut size = items(best);
     while size > 0 {
-        let mut end = pieces(recording(best)).len();
+        let mut end = items(best);
         while end > 0 {
             let from = end.saturating_sub(size);
             let candidate = without(best, from..end);
@@ -87,13 +91,25 @@ fn recording_mut(case: &mut Case) -> Option<&mut Vec<u8>> {
     }
 }
 
-/// The case without these records.
-fn without(case: &Case, records: Range<usize>) -> Case {
-    let pieces = pieces(recording(case));
-    let bytes = pieces[records.start].start..pieces[records.end - 1].end;
+/// The number of records, or of pairs; an address or a value alone is one, too.
+fn items(case: &Case) -> usize {
+    let [addresses, values] = case.call.pairs();
+    let pairs = addresses.len().max(values.len());
+    pairs.max(pieces(recording(case)).len())
+}
+
+/// The case without these records or pairs.
+fn without(case: &Case, items: Range<usize>) -> Case {
     let mut candidate = case.clone();
+    if let Call::WriteRegisters { addresses, values } = &mut candidate.call {
+        for numbers in [addresses, values] {
+            let [from, to] = [items.start, items.end].map(|end| end.min(numbers.len()));
+            numbers.drain(from..to);
+        }
+    }
     if let Some(recording) = recording_mut(&mut candidate) {
-        recording.drain(bytes);
+        let pieces = pieces(recording);
+        recording.drain(pieces[items.start].start..pieces[items.end - 1].end);
     }
     candidate
 }
@@ -129,15 +145,21 @@ fn all_numbers(case: &Case) -> Vec<Number> {
         all.extend((0..NUMBERS.len()).map(Number::Judged));
     }
     all.extend(numbers(recording(case)).into_iter().map(Number::Bytes));
+    let [addresses, values] = case.call.pairs();
+    all.extend((0..addresses.len()).map(Number::Address));
+    all.extend((0..values.len()).map(Number::Value));
     all
 }
 
-/// Values to try instead, the simplest first. The banks only become good, because a bad length is no simpler than another.
+/// Values to try instead, the simplest first. The banks only become good, because a bad length is no simpler than another; and of the addresses in a burst, one
+/// where a write does nothing is the simplest.
 fn lower(number: &Number, value: u64) -> Vec<u64> {
     let bank = BANK as u64;
     match number {
         Number::Dmem | Number::Imem if value == bank => Vec::new(),
         Number::Dmem | Number::Imem => vec![bank],
+        Number::Address(_) if value == u64::from(DP_CURRENT) => Vec::new(),
+        Number::Address(_) => vec![DP_CURRENT.into()],
         Number::Rdram => [0, 8, 4_096, 32_768]
             .into_iter()
             .filter(|length| *length < value)
@@ -174,6 +196,8 @@ fn get(case: &Case, number: &Number) -> u64 {
         Number::Bytes(range) => recording(case)[range.clone()]
             .iter()
             .fold(0, |sum, byte| sum << 8 | u64::from(*byte)),
+        Number::Address(i) => u64::from(case.call.pairs()[0][*i]),
+        Number::Value(i) => u64::from(case.call.pairs()[1][*i]),
         Number::Before => before(&case.call),
         Number::Filled => match &case.call {
             Call::WriteRecord { buffer, .. } => buffer.iter().any(|byte| *byte != 0).into(),
@@ -200,6 +224,16 @@ fn set(case: &mut Case, number: &Number, value: u64) {
             let bytes = &bytes[8 - range.len()..];
             if let Some(recording) = recording_mut(case) {
                 recording[range.clone()].copy_from_slice(bytes);
+            }
+        }
+        Number::Address(i) => {
+            if let Call::WriteRegisters { addresses, .. } = &mut case.call {
+                addresses[*i] = value as u32;
+            }
+        }
+        Number::Value(i) => {
+            if let Call::WriteRegisters { values, .. } = &mut case.call {
+                values[*i] = value as u32;
             }
         }
         Number::Before => set_before(&mut case.call, value as usize),

@@ -1,5 +1,6 @@
 //! What was compared, counted from the model's answers, and the least that must have been.
 
+use crate::bursts::Bursts;
 use crate::call::{Call, Case, NAMES};
 use crate::events::{Event, Events};
 use crate::records::pieces;
@@ -41,6 +42,7 @@ pub struct Totals {
     pub findings: Found,
     pub runs: Runs,
     pub rows: Rows,
+    pub bursts: Bursts,
     pub sights: Sights,
     pub events: Events,
 }
@@ -97,6 +99,7 @@ impl Totals {
         self.mirrors[call] += mirrors.count() as u64;
         self.runs.count(case, seen);
         self.rows.count(case, seen);
+        self.bursts.count(case, seen);
         self.sights.count(case, seen);
         if call == REPLAY || call == VERDICT {
             let verdict = CODES.iter().position(|(code, _)| *code == seen.code);
@@ -131,6 +134,7 @@ impl Totals {
         self.findings.add(&other.findings);
         self.runs.add(&other.runs);
         self.rows.add(&other.rows);
+        self.bursts.tally.add(&other.bursts.tally);
         self.sights.tally.add(&other.sights.tally);
         self.events.add(&other.events);
     }
@@ -276,10 +280,11 @@ fn address_at(recording: &[u8], place: usize) -> u32 {
     u32::from_be_bytes(address.expect("four bytes"))
 }
 
-/// The address that a call refused: its own, or that of the record.
+/// The address that a call refused: its own, or that of the pair or the record.
 fn refused_address(case: &Case, seen: &Seen) -> u32 {
     match &case.call {
         Call::Read { address } | Call::Write { address, .. } => *address,
+        Call::WriteRegisters { addresses, .. } => addresses[seen.outcome.answer.count as usize],
         Call::WriteRecord { item, .. } => item.address,
         Call::ReadRecord { recording, place } => address_at(recording, *place),
         Call::Replay { recording, .. } => address_at(recording, seen.place),
@@ -287,7 +292,7 @@ fn refused_address(case: &Case, seen: &Seen) -> u32 {
     }
 }
 
-/// The register addresses that a call accepted: its own, or those of the records.
+/// The register addresses that a call accepted: its own, or those of the pairs or the records.
 fn accessed(case: &Case, seen: &Seen) -> Vec<u32> {
     let accepted = seen.number() == 0;
     let of_record = |recording: &[u8], place: usize| {
@@ -296,6 +301,9 @@ fn accessed(case: &Case, seen: &Seen) -> Vec<u32> {
     };
     match &case.call {
         Call::Read { address } | Call::Write { address, .. } if accepted => vec![*address],
+        Call::WriteRegisters { addresses, .. } => {
+            addresses[..seen.outcome.answer.count as usize].to_vec()
+        }
         Call::WriteRecord { item, .. } if accepted && matches!(item.kind, 1 | 2) => {
             vec![item.address]
         }

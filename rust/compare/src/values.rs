@@ -203,7 +203,7 @@ pub fn not_register(random: &mut Random) -> u32 {
 }
 
 /// An address that is not a multiple of 4: within the blocks of registers, mirrors too, or outside.
-fn misaligned(random: &mut Random) -> u32 {
+pub fn misaligned(random: &mut Random) -> u32 {
     let word = if random.once_in(2) {
         register(random)
     } else {
@@ -213,7 +213,7 @@ fn misaligned(random: &mut Random) -> u32 {
 }
 
 /// A multiple of 4 that is no register's address: beside the blocks, or any.
-fn outside(random: &mut Random) -> u32 {
+pub fn outside(random: &mut Random) -> u32 {
     let beside = [0x0403_FFFC, 0x0404_0020, 0x040F_FFFC, 0x0420_0000];
     let far = [0, 0x0404_0040, 0x0407_FFE0, 0xFFFF_FFFC];
     loop {

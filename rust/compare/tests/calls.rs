@@ -1,7 +1,9 @@
 //! Single calls, made of the library and of the model.
 
 use compare::call::{Call, Case};
-use compare::cases::{any_case, call_of, good_lengths, odd_lengths, ON_A_STATE, ON_MEMORY, RUN};
+use compare::cases::{
+    any_case, call_of, good_lengths, odd_lengths, NO_REGISTER, ON_A_STATE, ON_MEMORY, RUN,
+};
 use compare::comparison::Comparison;
 use compare::damage::{bad_address, bad_kind, exactly, flipped, LONGEST};
 use compare::fields::{field, FIELDS, FLAGS};
@@ -27,7 +29,9 @@ fn done(test: &str, totals: &Totals) {
         println!("all single calls: {}", all.calls_line());
         println!("their queues: {}", all.sights.tally.line());
         println!("their rows: {}", all.rows.calls.line());
+        println!("their bursts: {}", all.bursts.tally.line());
         all.rows.calls.expect(25);
+        all.bursts.tally.expect(25);
         all.sights.tally.expect(25);
         assert!(all.compared >= 200_000);
     }
@@ -176,7 +180,7 @@ fn turns_runs_and_looks() {
     for _ in 0..14_000 {
         let lent = good_lengths(&mut random);
         let state = sound(&mut random, lent.rdram);
-        for kind in (3..ON_A_STATE).chain([RUN, RUN]) {
+        for kind in (NO_REGISTER..ON_A_STATE).chain([RUN, RUN]) {
             let call = call_of(&mut random, kind, &state, lent.rdram);
             let case = Case { state, lent, call };
             let seen = comparison.check(&case);
@@ -250,9 +254,9 @@ fn unsound_states() {
     for call in ["acknowledge", "sp_turn", "sp_row", "dp_turn", "run"] {
         comparison.totals.expect_numbers(call, &[4], 1_000);
     }
-    comparison
-        .totals
-        .expect_numbers("consumer_turn", &[4], 1_000);
+    for call in ["consumer_turn", "write_registers"] {
+        comparison.totals.expect_numbers(call, &[4], 1_000);
+    }
     done("unsound states", &comparison.totals);
 }
 

@@ -1,5 +1,6 @@
 //! The mirrors of the DP registers: every copy against the model, and the library against itself at the first copy.
 
+use compare::bursts::{any_burst, burst};
 use compare::call::{Call, Case};
 use compare::cases::odd_lengths;
 use compare::comparison::Comparison;
@@ -47,8 +48,13 @@ fn every_copy() {
                 comparison.check(&case(state, Lent::new(0, 0), call));
             }
         }
+        let pairs: Vec<(u32, u32)> = dp_registers()
+            .iter()
+            .map(|register| (in_copy(*register, copy), value))
+            .collect();
+        comparison.check(&case(state, Lent::new(0, 0), burst(&pairs)));
     }
-    for call in ["read_register", "write_register"] {
+    for call in ["read_register", "write_register", "write_registers"] {
         comparison.totals.expect_mirrors(call, 200_000);
     }
     println!("every copy: {}", comparison.totals.calls_line());
@@ -56,13 +62,21 @@ fn every_copy() {
 
 /// The library, called at the first copy of each register.
 fn at_first_copy(case: &Case) -> Seen {
+    // What it is lent is not what differs.
+    let pairs = case.call.pairs().map(<[u32]>::to_vec);
     let mut case = case.clone();
     match &mut case.call {
         Call::Read { address } | Call::Write { address, .. } => *address = first_copy(*address),
+        Call::WriteRegisters { addresses, .. } => addresses
+            .iter_mut()
+            .for_each(|address| *address = first_copy(*address)),
         Call::Replay { recording, .. } => unmirror(recording),
         call => panic!("{} is not called through mirrors", call.name()),
     }
-    library(&case)
+    Seen {
+        pairs,
+        ..library(&case)
+    }
 }
 
 /// Puts the first copy's address into each record that names a register.
@@ -99,11 +113,16 @@ fn calls_as_at_the_first_copy() {
         let value = register_value(&mut random);
         let register = random.pick(dp_registers()) + random.pick(&[0, 0, 0, 1, 2, 3]);
         let address = in_any_copy(&mut random, register);
-        for call in [Call::Read { address }, Call::Write { address, value }] {
+        let burst = any_burst(&mut random, 4_096);
+        for call in [
+            Call::Read { address },
+            Call::Write { address, value },
+            burst,
+        ] {
             comparison.check(&case(state, Lent::new(0, 0), call));
         }
     }
-    for call in ["read_register", "write_register"] {
+    for call in ["read_register", "write_register", "write_registers"] {
         comparison.totals.expect_numbers(call, &[0, 4, 10], 1_000);
         comparison.totals.expect_mirrors(call, 5_000);
     }

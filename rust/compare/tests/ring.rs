@@ -1,5 +1,6 @@
 //! The ring that holds the queued words: no answer depends on its head and on the slots without a word, and each call moves it as the header says.
 
+use compare::bursts::{burst, good_pairs};
 use compare::call::{Call, Case};
 use compare::cases::{call_of, good_lengths, odd_lengths, ON_A_STATE, ON_MEMORY};
 use compare::comparison::Comparison;
@@ -59,6 +60,7 @@ fn calls_in_other_slots() {
         totals.expect_numbers(call, &[0, 4], 200);
     }
     totals.expect_numbers("write_register", &[0, 4], 200);
+    totals.expect_numbers("write_registers", &[0, 4, 5, 10, 11], 50);
     assert_eq!(totals.runs.unforeseen, 0);
     println!("in other slots: {}", totals.calls_line());
 }
@@ -81,7 +83,7 @@ fn replays_in_other_slots() {
     println!("replays in other slots: {}", totals.recordings_line());
 }
 
-/// The ring after an accepted single call, by the words of the header. The queued words were compared already.
+/// The ring after a single call that is accepted, or a burst that stops at a pair, by the words of the header. The queued words were compared already.
 fn ring_after(case: &Case, seen: &Seen) -> ([u64; QUEUE_WORDS], u8) {
     let dp = &case.state.dp;
     let (mut queue, mut head) = (case.state.queue, dp.head);
@@ -96,17 +98,20 @@ fn ring_after(case: &Case, seen: &Seen) -> ([u64; QUEUE_WORDS], u8) {
     (queue, head)
 }
 
-/// A call other than a run, of those that give a state; often a write that sets FLUSH.
+/// A call other than a run, of those that give a state; often a write that sets FLUSH, alone or in a burst.
 fn single_call(random: &mut Random) -> Case {
     let lent = Lent::new(4_096, random.below(1 << 16));
     let state = sound(random, lent.rdram);
-    let call = match random.below(6) {
+    let (address, value) = (DP_STATUS, random.word() & !0x10 | 0x20);
+    let call = match random.below(7) {
         0 => Call::DpTurn,
         1 => Call::ConsumerTurn,
-        2 => Call::Write {
-            address: DP_STATUS,
-            value: random.word() & !0x10 | 0x20,
-        },
+        2 => Call::Write { address, value },
+        3 => {
+            let mut pairs = good_pairs(random, 4, lent.rdram);
+            pairs[random.place(4)] = (address, value);
+            burst(&pairs)
+        }
         _ => {
             // Up to the SP turn and the row, which are the first two on memory.
             let kind = 1 + random.place(ON_MEMORY + 1);
@@ -120,21 +125,26 @@ fn single_call(random: &mut Random) -> Case {
 #[test]
 fn slots_of_single_calls() {
     let mut random = Random::of_test(83);
-    let (mut flushed, mut free) = (0, 0);
+    let (mut flushed, mut free) = ([0; 2], 0);
     for _ in 0..20_000 {
         let case = single_call(&mut random);
         let seen = library_with_ring(&case);
-        if seen.number() != 0 {
+        if case.call.keeps_state(seen.number()) {
             continue;
         }
         let (before, after) = (&case.state.dp, &seen.outcome.state);
         assert_eq!((after.queue, after.dp.head), ring_after(&case, &seen));
-        let writes = matches!(case.call, Call::Write { .. });
-        flushed += u32::from(writes && after.dp.queued < before.queued);
+        let emptied = u32::from(after.dp.queued < before.queued);
+        match case.call {
+            Call::Write { .. } => flushed[0] += emptied,
+            Call::WriteRegisters { .. } => flushed[1] += emptied,
+            _ => {}
+        }
         free += u32::from(usize::from(before.queued) < QUEUE_WORDS);
     }
-    assert!(flushed >= 1_000 && free >= 1_000);
-    println!("rings kept: {flushed} queues flushed");
+    let [by_write, by_burst] = flushed;
+    assert!(by_write >= 1_000 && by_burst >= 1_000 && free >= 1_000);
+    println!("rings kept: {by_write} queues flushed by a write, {by_burst} by a burst");
 }
 
 /// The wrapper gives the queued words of every state, also of one that is not sound.

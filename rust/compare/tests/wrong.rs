@@ -1,5 +1,6 @@
 //! The comparison must be able to fail: sides that are wrong on purpose, and what is reported of them.
 
+use compare::bursts::{burst, good_pairs, refused_by};
 use compare::call::{Call, Case};
 use compare::comparison::Comparison;
 use compare::difference::hex;
@@ -8,15 +9,16 @@ use compare::items::{any_item, buffer_length, place_for};
 use compare::memory::{filled, Lent};
 use compare::random::Random;
 use compare::records::pieces;
+use compare::ring::settled;
 use compare::rows::row_words;
 use compare::seen::{model, sp_first, Seen};
 use compare::states::{both_busy, sound};
 use compare::traffic::Traffic;
-use compare::values::not_register;
+use compare::values::{is_register, not_register};
 use compare::verdicts::any_replayed;
 use compare::watch::Watch;
 use model::machine::DP_STATUS;
-use ofersky::{Findings, Verdict, LISTING_BYTES, NOTHING_COMPARED, PASSED};
+use ofersky::{Answer, Findings, Verdict, LISTING_BYTES, NOTHING_COMPARED, PASSED};
 use std::panic::{catch_unwind, set_hook, take_hook, AssertUnwindSafe};
 
 /// The easy slip of the rules: SKIP is added after the last row too.
@@ -226,6 +228,46 @@ fn counts_exchanged(case: &Case) -> Seen {
     seen
 }
 
+/// A burst that takes back what it did where a pair is refused.
+fn takes_pairs_back(case: &Case) -> Seen {
+    let mut seen = model(case);
+    if matches!(seen.number(), 5 | 10) {
+        seen.outcome.state = settled(&case.state);
+    }
+    seen
+}
+
+/// A burst that leaves out a pair which is refused, and goes on.
+fn goes_on_behind_a_bad_pair(case: &Case) -> Seen {
+    let [addresses, values] = case.call.pairs();
+    let pairs = addresses.iter().copied().zip(values.iter().copied());
+    let good: Vec<(u32, u32)> = pairs.filter(|pair| is_register(pair.0)).collect();
+    let (lent, call) = (case.lent, burst(&good));
+    let state = case.state;
+    let mut seen = model(case);
+    seen.outcome.state = model(&Case { state, lent, call }).outcome.state;
+    seen
+}
+
+/// A burst that clears the last value which it takes.
+fn clears_a_value(case: &Case) -> Seen {
+    let mut seen = model(case);
+    if let Some(last) = seen.outcome.answer.count.checked_sub(1) {
+        seen.pairs[1][last as usize] = 0;
+    }
+    seen
+}
+
+/// A burst that may be of 63 pairs at most.
+fn refuses_64_pairs(case: &Case) -> Seen {
+    let mut seen = model(case);
+    if case.call.pairs()[0].len() == 64 {
+        (seen.outcome.state, seen.outcome.answer) = (case.state, Answer::default());
+        seen.outcome.answer.number = 11;
+    }
+    seen
+}
+
 /// What is reported of a wrong side, over cases that are made in order.
 fn reported(wrong: fn(&Case) -> Seen, noun: &'static str, make: fn(&mut Random) -> Case) -> String {
     let result = catch_unwind(AssertUnwindSafe(|| {
@@ -314,6 +356,19 @@ fn sp_row(random: &mut Random) -> Case {
     Case { state, lent, call }
 }
 
+/// A burst of up to 64 pairs, of which one is mostly refused.
+fn any_length(random: &mut Random) -> Case {
+    let length = 1 + random.place(64);
+    let mut pairs = good_pairs(random, length, 4_096);
+    if !random.once_in(4) {
+        let number = random.pick(&[10, 5]);
+        pairs[random.place(length)].0 = refused_by(random, number);
+    }
+    let (state, lent) = (sound(random, 4_096), Lent::new(0, 0));
+    let call = burst(&pairs);
+    Case { state, lent, call }
+}
+
 /// A run with a small budget for the SP.
 fn short_run(random: &mut Random) -> Case {
     let mut case = run(random);
@@ -343,8 +398,19 @@ fn shown_recording(report: &str) -> Vec<u8> {
     (0..hex.len() / 2).map(byte).collect()
 }
 
-/// The reports of these twelve, of five that are wrong about the queue and of three about rows, with the panic's own message kept off the screen.
-fn reports() -> ([String; 12], [String; 5], [String; 3]) {
+/// The reports of those that are wrong about bursts.
+fn reports_of_bursts() -> [String; 4] {
+    [
+        reported(takes_pairs_back, "call", any_length),
+        reported(goes_on_behind_a_bad_pair, "call", any_length),
+        reported(clears_a_value, "call", any_length),
+        reported(refuses_64_pairs, "call", any_length),
+    ]
+}
+
+/// The reports of these twelve, of five that are wrong about the queue, of three about rows and of those about bursts, with the panic's own message kept off
+/// the screen.
+fn reports() -> ([String; 12], [String; 5], [String; 3], [String; 4]) {
     let hook = take_hook();
     set_hook(Box::new(|_| {}));
     let reports = [
@@ -373,16 +439,17 @@ fn reports() -> ([String; 12], [String; 5], [String; 3]) {
         reported(drops_the_whole_row, "call", sp_row),
         reported(block_past_the_budget, "call", short_run),
     ];
+    let bursts = reports_of_bursts();
     set_hook(hook);
-    for report in reports.iter().chain(&queues).chain(&rows) {
+    for report in reports.iter().chain(&queues).chain(&rows).chain(&bursts) {
         println!("{report}");
     }
-    (reports, queues, rows)
+    (reports, queues, rows, bursts)
 }
 
 #[test]
 fn wrong_sides_are_found() {
-    let (reports, queues, rows) = reports();
+    let (reports, queues, rows, bursts) = reports();
     let [skip, line_end, framing, declined, room, next_byte, place, number, found, pass, order, counts] =
         reports;
 
@@ -417,6 +484,7 @@ fn wrong_sides_are_found() {
     wrong_runs_are_found(&order, &counts);
     wrong_queues_are_found(&queues);
     wrong_rows_are_found(&rows);
+    wrong_bursts_are_found(&bursts);
 }
 
 /// A run as reports show it.
@@ -436,6 +504,27 @@ fn wrong_rows_are_found([start, whole, block]: &[String; 3]) {
     assert!(block.contains(&shown_run([1, 0, 0], 0)));
     assert!(block.contains("sp.len 0x8, sp.row 0x8, sp.busy 0x1\n"));
     assert!(block.contains("\n  count: expected 0x1 by the model, given 0x2 by the library"));
+}
+
+/// Two by a good pair and a bad one, in either order; one by a pair alone; and one by 64 pairs, of which none can be left out.
+fn wrong_bursts_are_found([back, on, value, most]: &[String; 4]) {
+    let of_pairs = |pairs| {
+        format!("write_registers of {pairs} addresses and {pairs} values\nstate: as at power-up\n")
+    };
+    assert!(back.contains(&(of_pairs(2) + "  SPADDR, 0x00000008\n  0x")));
+    assert!(back.contains("differs:\n  sp.splatch: expected 0x8 by the model, given 0x0"));
+
+    assert!(on.contains(&(of_pairs(2) + "  0x")));
+    assert!(on.contains(", 0x00000000\n  RAMADDR, 0x00000008\ndiffers:\n"));
+    assert!(on.contains("differs:\n  sp.ramlatch: expected 0x0 by the model, given 0x8"));
+
+    assert!(value.contains(&(of_pairs(1) + "  CURRENT, 0x00000001\ndiffers:\n")));
+    assert!(value.contains("differs:\n  values at 0x0: expected 0x00000001 by the model, given"));
+
+    assert!(most.contains(&of_pairs(64)));
+    assert_eq!(most.matches("\n  CURRENT, 0x00000000").count(), 64);
+    assert!(most.contains("differs:\n  number: expected 0x0 by the model, given 0xB"));
+    assert!(most.contains("\n  count: expected 0x40 by the model, given 0x0 by the library"));
 }
 
 /// Each by the least that shows it. A word taken early from a full queue lets the DP fetch before the SP's second turn.

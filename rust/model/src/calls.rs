@@ -1,6 +1,7 @@
 //! Every public call as one function: it takes the whole state and the lent
 //! memories, for every input, and gives the number, the answer and the next
-//! state. A call that is declined gives the state back as it was handed in.
+//! state. A call that is declined gives the state back as it was handed in; a
+//! burst or a replay that stops midway keeps what was done before.
 //!
 //! The states here are as a caller hands them over: a flag is a byte, which
 //! may be neither 0 nor 1. The rules themselves are in `machine` and
@@ -19,9 +20,13 @@ pub const BAD_DMEM: u32 = 2;
 pub const BAD_IMEM: u32 = 3;
 /// The number for a state that is not sound.
 pub const NOT_SOUND: u32 = 4;
+/// The number for a burst whose lengths differ or are above 64.
+pub const BAD_BURST: u32 = 11;
 
 const LARGEST_RDRAM: usize = 16_777_216;
 const WORD_BYTES: usize = 8;
+/// A burst may have this many pairs and no more.
+const LONGEST_BURST: usize = 64;
 /// Slots of the ring that a caller keeps the queued words in.
 const SLOTS: u8 = 32;
 
@@ -327,6 +332,15 @@ fn check_bank(bank: &[u8], number: u32) -> Result<(), u32> {
     }
 }
 
+/// A burst has as many values as addresses, and at most 64 of each.
+fn check_burst(addresses: &[u32], values: &[u32]) -> Result<(), u32> {
+    if addresses.len() == values.len() && addresses.len() <= LONGEST_BURST {
+        Ok(())
+    } else {
+        Err(BAD_BURST)
+    }
+}
+
 /// A machine for a call that takes all three memories.
 fn with_all<'a>(
     state: &State,
@@ -394,6 +408,27 @@ pub fn write_register(state: &State, address: u32, value: u32) -> Outcome {
         Ok((state_of(state, &machine), 0, 0))
     });
     outcome(state, done)
+}
+
+/// A burst: writes value k at address k, in order, each on the state that the
+/// last one left. It stops at the first write that is refused, with its number,
+/// and what the writes before it did stays done. The count is their number.
+pub fn write_registers(state: &State, addresses: &[u32], values: &[u32]) -> Outcome {
+    // Lengths that are not allowed are refused before anything else.
+    let ready = check_burst(addresses, values).and_then(|()| without_memory(state));
+    let (state, number, count) = match ready {
+        Ok(mut machine) => {
+            let (written, last) = machine.write_all(addresses, values);
+            (state_of(state, &machine), last.err().unwrap_or(0), written)
+        }
+        Err(number) => (state.clone(), number, 0),
+    };
+    let answer = Answer {
+        number,
+        value: 0,
+        count,
+    };
+    Outcome { state, answer }
 }
 
 pub fn tick(state: &State, n: u32) -> Outcome {

@@ -1,7 +1,7 @@
 //! The SP engine, the DP engine, their sixteen registers and two lines.
 //!
-//! The public methods of `Machine` are the paper's calls on a state that is sound
-//! and memories of an allowed length.
+//! The public methods of `Machine` are the paper's calls on a state that is sound,
+//! and memories and bursts of an allowed length.
 
 use std::collections::VecDeque;
 use std::ops::{Deref, DerefMut};
@@ -539,6 +539,19 @@ impl<M> Machine<M> {
             _ => unreachable!("always one of the sixteen"),
         }
         Ok(())
+    }
+
+    /// Writes value k at address k, in order, up to the first that is refused.
+    /// Gives how many were written, and the number of the refused one.
+    pub fn write_all(&mut self, addresses: &[u32], values: &[u32]) -> (u32, Result<(), u32>) {
+        let mut written = 0;
+        for (address, value) in addresses.iter().zip(values) {
+            if let Err(number) = self.write(*address, *value) {
+                return (written, Err(number));
+            }
+            written += 1;
+        }
+        (written, Ok(()))
     }
 
     /// Adds to CLOCK, and to the CMD_BUSY and PIPE_BUSY counters where bits 6

@@ -435,19 +435,26 @@ fn refusals_come_in_the_order_of_the_table() {
 /// The register calls give this number for an address, and 4 before it.
 fn expect_address(address: u32, number: u32) {
     let state = running();
-    let read = read_register(&state, address);
-    let write = write_register(&state, address, 0);
-    assert_eq!(read.answer.number, number, "{address:08X}");
-    assert_eq!(write.answer.number, number, "{address:08X}");
-    if number != 0 {
-        let declined = declined(&state, number);
-        assert_eq!((&read, &write), (&declined, &declined));
+    for outcome in with_address(&state, address) {
+        assert_eq!(outcome.answer.number, number, "{address:08X}");
+        if number != 0 {
+            assert_eq!(outcome, declined(&state, number));
+        }
     }
     let mut unsound = state;
     unsound.sp.count = 256;
-    let declined = declined(&unsound, 4);
-    assert_eq!(read_register(&unsound, address), declined);
-    assert_eq!(write_register(&unsound, address, 0), declined);
+    for outcome in with_address(&unsound, address) {
+        assert_eq!(outcome, declined(&unsound, 4), "{address:08X}");
+    }
+}
+
+/// Every call that takes a register's address.
+fn with_address(state: &State, address: u32) -> [Outcome; 3] {
+    [
+        read_register(state, address),
+        write_register(state, address, 0),
+        write_registers(state, &[address], &[0]),
+    ]
 }
 
 #[test]
@@ -661,6 +668,7 @@ fn the_slot_of_the_oldest_word_is_below_32() {
             consumer_turn(&state),
             dp_turn(&state, &[], &[0; BANK]),
             write_register(&state, DP_STATUS, 0x20),
+            write_registers(&state, &[DP_STATUS; 2], &[0x20, 0x10]),
             tick(&state, 1),
         ];
         for outcome in outcomes {
@@ -780,6 +788,8 @@ fn every_call_on_a_sound_state_leaves_a_sound_one() {
             bench.took(read, success(value_read, 0));
             bench.took(write_register(&state, address, value), success(0, 0));
         }
+        let burst = write_registers(&state, &REGISTERS, &[value; 16]);
+        bench.took(burst, success(0, 16));
         bench.took(tick(&state, value), success(0, 0));
         bench.took(sp_break(&state), success(0, 0));
         bench.took(acknowledge(&state), success(0, 0));

@@ -69,7 +69,8 @@ fn expect_number(address: u32, number: u32) {
     let state = full_state();
     let read = read_register(&state, address);
     let write = write_register(&state, address, 0);
-    for outcome in [read, write] {
+    let burst = write_registers(&state, &[address], &[0]);
+    for outcome in [read, write, burst] {
         assert_eq!(outcome.answer.number, number, "{address:08X}");
         if number != 0 {
             assert_eq!(outcome, declined(&state, number));
@@ -302,6 +303,7 @@ fn expect_4_everywhere(state: &State) {
         let outcomes = [
             read_register(state, address),
             write_register(state, address, 0x20),
+            write_registers(state, &[address], &[0x20]),
         ];
         for outcome in outcomes {
             assert_eq!(outcome, declined(state, 4), "{address:08X}");

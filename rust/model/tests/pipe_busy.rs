@@ -499,6 +499,7 @@ fn only_a_fetch_and_a_consumed_sync_full_change_it() {
             outcomes.push(read_register(&state, address));
             outcomes.push(write_register(&state, address, value));
         }
+        outcomes.push(write_registers(&state, &REGISTERS, &[value; 16]));
         for outcome in outcomes {
             assert_eq!(outcome.answer.number, 0);
             assert_eq!(outcome.state.dp.pipebusy, state.dp.pipebusy);

@@ -119,7 +119,8 @@ pub struct Answer {
     pub count: u32,
 }
 
-/// The next state, or after a refusal the state as handed in, and the answer. A replay that stops at a record gives the state that the records before it left.
+/// The next state, or after a refusal the state as handed in, and the answer. A replay that stops at a record gives the state that the records before it left,
+/// and a burst that stops at a pair, refused by 10 or 5, the state that the pairs before it left.
 #[repr(C)]
 #[derive(Clone, Copy, Debug, Default, PartialEq, Eq)]
 pub struct Outcome {
@@ -250,6 +251,30 @@ pub fn read_register(state: State, address: u32) -> Outcome {
 /// ```
 pub fn write_register(state: State, address: u32, value: u32) -> Outcome {
     unsafe { raw::ofersky_write_register(state, address, value) }
+}
+
+/// A burst: writes value k at address k, one pair after the other, each on the state that the last one left. It stops at the
+/// first pair that is refused, and what the pairs before it did stays done. The value is 0, the count the number of pairs
+/// written. Refusals: 11, where the lengths differ or are more than 64, and 4, both with nothing done; then those of a pair:
+/// 10, 5.
+///
+/// ```
+/// let (ramaddr, rdlen, outside) = (0x0404_0004, 0x0404_0008, 0x0404_0020);
+/// let burst = |addresses: &[u32], values: &[u32]| {
+///     let done = ofersky::write_registers(ofersky::power_up(), addresses, values);
+///     let sp = done.state.sp;
+///     (done.answer.number, done.answer.count, sp.ramlatch, sp.busy)
+/// };
+/// assert_eq!(burst(&[ramaddr, rdlen], &[0x2000, 0x0F]), (0, 2, 0x2000, 1));
+/// // The pair in the middle is refused: RAMADDR is written, and no transfer starts.
+/// assert_eq!(burst(&[ramaddr, outside, rdlen], &[0x2000, 0, 0x0F]), (5, 1, 0x2000, 0));
+/// // An address without its value.
+/// assert_eq!(burst(&[ramaddr, rdlen], &[0x2000]), (11, 0, 0, 0));
+/// assert_eq!(burst(&[], &[]), (0, 0, 0, 0));
+/// ```
+pub fn write_registers(state: State, addresses: &[u32], values: &[u32]) -> Outcome {
+    let [a, v] = [addresses, values].map(shared);
+    unsafe { raw::ofersky_write_registers(state, a.0, a.1, v.0, v.1) }
 }
 
 /// Adds to the clock; to the CMD_BUSY counter if a word is queued; and to the PIPE_BUSY counter if that flag is on.
@@ -503,8 +528,8 @@ pub fn verdict_code(replayed: &Replayed) -> u32 {
 }
 
 /// A slice as C takes it.
-fn shared(bytes: &[u8]) -> (*const u8, usize) {
-    (bytes.as_ptr(), bytes.len())
+fn shared<T>(items: &[T]) -> (*const T, usize) {
+    (items.as_ptr(), items.len())
 }
 
 fn lent(bytes: &mut [u8]) -> (*mut u8, usize) {

@@ -7,6 +7,13 @@ extern "C" {
     pub fn ofersky_is_sound(s: State) -> bool;
     pub fn ofersky_read_register(s: State, address: u32) -> Outcome;
     pub fn ofersky_write_register(s: State, address: u32, value: u32) -> Outcome;
+    pub fn ofersky_write_registers(
+        s: State,
+        addresses: *const u32,
+        addresses_length: usize,
+        values: *const u32,
+        values_length: usize,
+    ) -> Outcome;
     pub fn ofersky_tick(s: State, n: u32) -> Outcome;
     pub fn ofersky_sp_break(s: State) -> Outcome;
     pub fn ofersky_acknowledge(s: State) -> Outcome;

@@ -1,6 +1,7 @@
 //! What is timed.
 
 mod all_three;
+mod bursts;
 mod dp;
 mod registers;
 mod replays;
@@ -24,6 +25,7 @@ const RAMADDR: u32 = 0x0404_0004;
 const RDLEN: u32 = 0x0404_0008;
 const WRLEN: u32 = 0x0404_000C;
 const SP_STATUS: u32 = 0x0404_0010;
+const SEMAPHORE: u32 = 0x0404_001C;
 const START: u32 = 0x0410_0000;
 const END: u32 = 0x0410_0004;
 const CURRENT: u32 = 0x0410_0008;
@@ -35,6 +37,11 @@ const NO_SLOWER: f64 = 1.05;
 /// The lines of the SP alone, as they are measured.
 pub fn sp_alone(show: &mut dyn FnMut(Line)) {
     sp::all(show);
+}
+
+/// Those of bursts.
+pub fn bursts(show: &mut dyn FnMut(Line)) {
+    bursts::all(show);
 }
 
 /// All other lines.
@@ -55,6 +62,7 @@ pub fn before_and_after(show: &mut dyn FnMut(Line)) {
     all_three::before_and_after(show);
     turns::before_and_after(show);
     registers::before_and_after(show);
+    bursts::before_and_after(show);
     replays::before_and_after(show);
 }
 

@@ -144,6 +144,12 @@ impl Bench {
         }
     }
 
+    /// The same kind of pairs in one call.
+    pub fn burst(&mut self, pairs: &[(u32, u32)]) -> Answer {
+        let outcome = burst(&self.state, pairs);
+        self.answered(outcome)
+    }
+
     pub fn reads(&mut self, pairs: &[(u32, u32)]) {
         for (address, value) in pairs {
             let outcome = read_register(&self.state, *address);
@@ -265,6 +271,12 @@ pub fn success(value: u64, count: u32) -> Answer {
         value,
         count,
     }
+}
+
+/// A burst of addresses, each with its value.
+pub fn burst(state: &State, pairs: &[(u32, u32)]) -> Outcome {
+    let (addresses, values): (Vec<u32>, Vec<u32>) = pairs.iter().copied().unzip();
+    write_registers(state, &addresses, &values)
 }
 
 /// The outcome of a call that is declined.
@@ -430,6 +442,8 @@ pub fn expect_register_calls(state: &State, number: u32) {
     let outcomes = [
         read_register(state, 0x0404_001C),
         write_register(state, 0x0410_0000, 8),
+        write_registers(state, &[0x0410_0000], &[8]),
+        write_registers(state, &[], &[]),
         tick(state, 1),
         sp_break(state),
         acknowledge(state),
