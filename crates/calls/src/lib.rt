@@ -1,7 +1,6 @@
 // Every public call, in one place. Each takes every input; what it promises is in machine/specs/Promised.antt, that of a burst in
-// bursts/specs/Bursts.antt, those of the
-// reader and the writer in recording/specs (Reader.antt, Fields.antt, Writer.antt), and those of a replay and its verdict in playback/specs
-// (Promised.antt, Verdict.antt).
+// bursts/specs/Bursts.antt, those of the reader and the writer in recording/specs (Reader.antt, Fields.antt, Writer.antt), and those of a
+// replay and its verdict in playback/specs (Promised.antt, Verdict.antt).
 pub use access::acknowledge;
 pub use access::read_register;
 pub use access::sp_break;
