@@ -1,7 +1,8 @@
 //! OFERSKY_BEFORE names the folder of an earlier libofersky.a, to be timed beside this one in the same run. All its names are hidden but those of the calls
-//! that are timed, which get names of their own.
+//! that are timed, which get names of their own, and declarations that are made of ours.
 
 use std::env;
+use std::fs;
 use std::path::{Path, PathBuf};
 use std::process::Command;
 
@@ -26,6 +27,7 @@ fn main() {
     println!("cargo:rerun-if-changed={}", library.display());
     let out = PathBuf::from(env::var_os("OUT_DIR").unwrap());
     rename(&library, &out.join("libbefore.a"));
+    declare(&out.join("before.rs"));
     println!("cargo:rustc-link-search=native={}", out.display());
     println!("cargo:rustc-link-lib=static=before");
     println!("cargo:rustc-cfg=before");
@@ -41,4 +43,15 @@ fn rename(from: &Path, to: &Path) {
         Ok(status) if status.success() => {}
         other => panic!("objcopy of {}: {other:?}", from.display()),
     }
+}
+
+/// The wrapper's declarations, under those names.
+fn declare(to: &Path) {
+    let ours = "../ofersky/src/raw.rs";
+    println!("cargo:rerun-if-changed={ours}");
+    let text = fs::read_to_string(ours).unwrap();
+    let text = text.replace("ofersky_", "before_");
+    let text = text.replace("use crate::", "use ofersky::");
+    let lines = text.lines().filter(|line| !line.starts_with("//!"));
+    fs::write(to, lines.collect::<Vec<_>>().join("\n")).unwrap();
 }

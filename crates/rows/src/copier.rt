@@ -5,7 +5,8 @@ ghost use lib.ListN.{length, take, drop, replicate};
 ghost use lib.Seq.{sets};
 ghost use Rattle.rows.specs.Words.{fittedWords, wordsMoved};
 
-fn smaller(a: usize, b: usize) -> usize
+// `lesser` of words at the width of lengths.
+fn lesser(a: usize, b: usize) -> usize
     ensures { λ r. ⌜ r ≡ min a b ⌝ }
 {
     if a < b { a } else { b }
@@ -16,9 +17,9 @@ fn fitted_words(n: usize, at: usize, most: usize) -> usize
     ensures { λ r. ⌜ r ≡ fittedWords most n at ⌝ }
 {
     if n < at {
-        return smaller(most, 0);
+        return 0;
     }
-    smaller(most, (n - at) / 8)
+    lesser(most, (n - at) / 8)
 }
 
 // The row copier: two parts of one length, at most a bank's. The compiler makes one block copy of both loops, and no array: it may not assume that the
@@ -27,7 +28,7 @@ fn copy(target: &mut [u8], source: &[u8])
     ensures { λ _. ⌜ (length (now (target .entry)) ≡ length (now (source .entry)) → length (now (target .entry)) ≤ 0x1000
         → now (target .exit) ≡ now (source .entry)) ⌝ }
 {
-    let n = smaller(smaller(target.len(), source.len()), 0x1000);
+    let n = lesser(lesser(target.len(), source.len()), 0x1000);
     let mut bytes = [0u8; 0x1000];
     let mut i = 0;
     while i < n {
@@ -75,7 +76,7 @@ fn clear_part(target: &mut [u8], at: usize, n: usize)
 pub(crate) fn move_words(target: &mut [u8], at: usize, source: &[u8], from: usize, n: usize)
     ensures { λ _. ⌜ now (target .exit) ≡ wordsMoved (min n 0x200) (now (target .entry)) at (now (source .entry)) from ⌝ }
 {
-    let most = smaller(n, 0x200);
+    let most = lesser(n, 0x200);
     let room = fitted_words(target.len(), at, most);
     let have = fitted_words(source.len(), from, room);
     if room == 0 {

@@ -3,57 +3,15 @@
 
 use crate::buffers::Buffers;
 use crate::library::Library;
-use ofersky::{Outcome, Ran, Replayed, State};
+use ofersky::{Outcome, Ran, State};
 use std::hint::black_box;
 
-extern "C" {
-    fn before_run(
-        s: State,
-        sp_budget: u32,
-        dp_budget: u32,
-        consumer_budget: u32,
-        rdram: *mut u8,
-        rdram_bytes: usize,
-        dmem: *mut u8,
-        dmem_bytes: usize,
-        imem: *mut u8,
-        imem_bytes: usize,
-        out: *mut u8,
-        out_bytes: usize,
-    ) -> Ran;
-    fn before_sp_turn(
-        s: State,
-        rdram: *mut u8,
-        rdram_bytes: usize,
-        dmem: *mut u8,
-        dmem_bytes: usize,
-        imem: *mut u8,
-        imem_bytes: usize,
-    ) -> Outcome;
-    fn before_dp_turn(
-        s: State,
-        rdram: *const u8,
-        rdram_bytes: usize,
-        dmem: *const u8,
-        dmem_bytes: usize,
-    ) -> Outcome;
-    fn before_consumer_turn(s: State) -> Outcome;
-    fn before_read_register(s: State, address: u32) -> Outcome;
-    fn before_write_register(s: State, address: u32, value: u32) -> Outcome;
-    fn before_replay(
-        s: State,
-        recording: *const u8,
-        recording_bytes: usize,
-        rdram: *mut u8,
-        rdram_bytes: usize,
-        dmem: *mut u8,
-        dmem_bytes: usize,
-        imem: *mut u8,
-        imem_bytes: usize,
-        out: *mut u8,
-        out_bytes: usize,
-    ) -> Replayed;
+/// Only those of the timed calls are in the library.
+#[allow(dead_code)]
+mod raw {
+    include!(concat!(env!("OUT_DIR"), "/before.rs"));
 }
+use raw::*;
 
 /// A slice as C takes it.
 fn shared(bytes: &[u8]) -> (*const u8, usize) {

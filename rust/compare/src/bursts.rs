@@ -17,17 +17,6 @@ pub const LONGEST: usize = 64;
 /// An address and a value.
 pub type Pair = (u32, u32);
 
-/// The registers that can only be read.
-pub const READ_ONLY: [u32; 7] = [
-    SP_DMA_FULL,
-    SP_DMA_BUSY,
-    DP_CURRENT,
-    DP_CLOCK,
-    DP_CMD_BUSY,
-    DP_PIPE_BUSY,
-    DP_TMEM_BUSY,
-];
-
 pub fn burst(pairs: &[Pair]) -> Call {
     let (addresses, values) = pairs.iter().copied().unzip();
     Call::WriteRegisters { addresses, values }

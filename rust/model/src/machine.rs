@@ -49,6 +49,17 @@ pub const REGISTERS: [u32; 16] = [
     DP_TMEM_BUSY,
 ];
 
+/// Those that can only be read: a write to one succeeds and does nothing.
+pub const READ_ONLY: [u32; 7] = [
+    SP_DMA_FULL,
+    SP_DMA_BUSY,
+    DP_CURRENT,
+    DP_CLOCK,
+    DP_CMD_BUSY,
+    DP_PIPE_BUSY,
+    DP_TMEM_BUSY,
+];
+
 /// The eight DP registers repeat from 0x04100000 to this address.
 const DP_RANGE_LAST: u32 = 0x041F_FFFF;
 /// Bytes from one copy of them to the next.

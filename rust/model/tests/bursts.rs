@@ -6,9 +6,8 @@ mod common;
 use common::*;
 use model::calls::*;
 use model::machine::{
-    DP_CLOCK, DP_CMD_BUSY, DP_CURRENT, DP_END, DP_PIPE_BUSY, DP_START, DP_STATUS, DP_TMEM_BUSY,
-    REGISTERS, SP_DMA_BUSY, SP_DMA_FULL, SP_RAMADDR, SP_RDLEN, SP_SEMAPHORE, SP_SPADDR, SP_STATUS,
-    SP_WRLEN,
+    DP_CLOCK, DP_CURRENT, DP_END, DP_START, DP_STATUS, READ_ONLY, REGISTERS, SP_DMA_BUSY,
+    SP_DMA_FULL, SP_RAMADDR, SP_RDLEN, SP_SEMAPHORE, SP_SPADDR, SP_STATUS, SP_WRLEN,
 };
 
 /// One address for each number, with that number.
@@ -295,16 +294,7 @@ fn every_place_of_a_full_burst_is_written() {
 
 #[test]
 fn writes_to_read_only_registers_succeed_and_count() {
-    let only_read = [
-        SP_DMA_FULL,
-        SP_DMA_BUSY,
-        DP_CURRENT,
-        DP_CLOCK,
-        DP_CMD_BUSY,
-        DP_PIPE_BUSY,
-        DP_TMEM_BUSY,
-    ];
-    let mut pairs = only_read.map(|address| (address, u32::MAX)).to_vec();
+    let mut pairs = READ_ONLY.map(|address| (address, u32::MAX)).to_vec();
     let mut bench = Bench::new();
     bench.state = full_state();
     assert_eq!(bench.burst(&pairs), success(0, 7));

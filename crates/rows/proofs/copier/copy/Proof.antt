@@ -23,14 +23,14 @@ Inv-loop2 target₀ source n bytes i j₀ target j =
 abbrev μ-loop2 : tie.MeasureT-loop2
 μ-loop2 target₀ source n bytes i j₀ target j = n - j
 
-smaller-requires : tie.Need-smaller-requires Inv-loop μ-loop Inv-loop2 μ-loop2
-smaller-requires c κs = search needs
+lesser-requires : tie.Need-lesser-requires Inv-loop μ-loop Inv-loop2 μ-loop2
+lesser-requires c κs = search needs
 
-smaller-requires-2 : tie.Need-smaller-requires-2 Inv-loop μ-loop Inv-loop2 μ-loop2
-smaller-requires-2 c κs = search needs
+lesser-requires-2 : tie.Need-lesser-requires-2 Inv-loop μ-loop Inv-loop2 μ-loop2
+lesser-requires-2 c κs = search needs
 
 loop-holds : tie.Need-loop-holds Inv-loop μ-loop Inv-loop2 μ-loop2
-loop-holds c = (c .smaller2 .ensures ∙ ap (λ k. min k 0x1000) (c .before .smaller .ensures), search needs, search needs, refl)
+loop-holds c = (c .lesser2 .ensures ∙ ap (λ k. min k 0x1000) (c .before .lesser .ensures), search needs, search needs, refl)
 
 shared-slice-read-bytes : tie.Need-shared-slice-read-bytes Inv-loop μ-loop Inv-loop2 μ-loop2
 shared-slice-read-bytes c = search needs
@@ -98,8 +98,8 @@ copy-spec =
     μ-loop
     Inv-loop2
     μ-loop2
-    smaller-requires
-    smaller-requires-2
+    lesser-requires
+    lesser-requires-2
     loop-holds
     shared-slice-read-bytes
     array-write-bytes

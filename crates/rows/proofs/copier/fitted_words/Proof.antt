@@ -3,19 +3,16 @@ use Rattle.rows.specs.Words.{fittedWords}
 use Rattle.rows.proofs.copier.fitted_words.Statement.{statement}
 use Rattle.rows.proofs.copier.fitted_words.Tie as tie
 
-smaller-requires : tie.Need-smaller-requires
-smaller-requires c κs = search needs
-
 returns : tie.Need-returns
 unfolding fittedWords
 returns c = search needs
 
-smaller-requires-2 : tie.Need-smaller-requires-2
-smaller-requires-2 c κs = search needs
+lesser-requires : tie.Need-lesser-requires
+lesser-requires c κs = search needs
 
 returns-2 : tie.Need-returns-2
 unfolding fittedWords
 returns-2 c = search needs
 
 pub fitted-words-spec : {M : Type 1} → statement M
-fitted-words-spec = tie.close (tie.spec smaller-requires returns smaller-requires-2 returns-2)
+fitted-words-spec = tie.close (tie.spec returns lesser-requires returns-2)

@@ -9,8 +9,8 @@ use Rattle.rows.proofs.Words.{sizes, moved-none, moved-zeros, moved-som
 use Rattle.rows.proofs.copier.move_words.Statement.{statement}
 use Rattle.rows.proofs.copier.move_words.Tie as tie
 
-smaller-requires : tie.Need-smaller-requires
-smaller-requires c κs = search needs
+lesser-requires : tie.Need-lesser-requires
+lesser-requires c κs = search needs
 
 fitted-words-requires : tie.Need-fitted-words-requires
 fitted-words-requires c κs = search needs
@@ -23,8 +23,8 @@ returns c =
     let r = c .before .before in
     let m = r .before in
     let a = m .before .before .before .args in
-    sym (ap (λ k. wordsMoved k (a .target .now) (a .at) (a .source .now) (a .from)) (sym (m .smaller .ensures))
-    ∙ moved-none (m .smaller .result) (a .target .now) (a .at) (a .source .now) (a .from) (omega (arith, c .if1 .taken, r .fitted-words .ensures)))
+    sym (ap (λ k. wordsMoved k (a .target .now) (a .at) (a .source .now) (a .from)) (sym (m .lesser .ensures))
+    ∙ moved-none (m .lesser .result) (a .target .now) (a .at) (a .source .now) (a .from) (omega (arith, c .if1 .taken, r .fitted-words .ensures)))
 
 mul-clear-part : tie.Need-mul-clear-part
 mul-clear-part c =
@@ -32,7 +32,7 @@ mul-clear-part c =
     let r = h .before in
     let m = r .before in
     let a = m .before .before .before .args in
-    let z = sizes (length (a .target .now)) (a .at) (length (a .source .now)) (a .from) (a .n) (m .smaller .ensures) (r .fitted-words .ensures) (h .fitted-words2 .ensures) (omega (arith, c .before .before .if1 .left)) in
+    let z = sizes (length (a .target .now)) (a .at) (length (a .source .now)) (a .from) (a .n) (m .lesser .ensures) (r .fitted-words .ensures) (h .fitted-words2 .ensures) (omega (arith, c .before .before .if1 .left)) in
     omega (arith, z .small, z .copied)
 
 clear-part-requires : tie.Need-clear-part-requires
@@ -41,7 +41,7 @@ clear-part-requires c κs =
     let r = h .before in
     let m = r .before in
     let a = m .before .before .before .args in
-    let z = sizes (length (a .target .now)) (a .at) (length (a .source .now)) (a .from) (a .n) (m .smaller .ensures) (r .fitted-words .ensures) (h .fitted-words2 .ensures) (omega (arith, c .before .before .if1 .left)) in
+    let z = sizes (length (a .target .now)) (a .at) (length (a .source .now)) (a .from) (a .n) (m .lesser .ensures) (r .fitted-words .ensures) (h .fitted-words2 .ensures) (omega (arith, c .before .before .if1 .left)) in
     omega (arith, z .target, z .copied)
 
 same-length : tie.Need-same-length
@@ -54,9 +54,9 @@ returns-2 c =
     let m = r .before in
     let a = m .before .before .before .args in
     c .before .before .clear-part .ensures
-    ∙ moved-zeros (m .smaller .result) (a .target .now) (a .at) (a .source .now) (a .from) (r .fitted-words .result) (h .fitted-words2 .result)
+    ∙ moved-zeros (m .lesser .result) (a .target .now) (a .at) (a .source .now) (a .from) (r .fitted-words .result) (h .fitted-words2 .result)
     (r .fitted-words .ensures) (h .fitted-words2 .ensures) (omega (arith, c .before .before .before .before .before .if1 .left)) (c .before .before .before .before .if2 .taken)
-    ∙ ap (λ k. wordsMoved k (a .target .now) (a .at) (a .source .now) (a .from)) (m .smaller .ensures)
+    ∙ ap (λ k. wordsMoved k (a .target .now) (a .at) (a .source .now) (a .from)) (m .lesser .ensures)
 
 mul-copy-part : tie.Need-mul-copy-part
 mul-copy-part c =
@@ -64,7 +64,7 @@ mul-copy-part c =
     let r = h .before in
     let m = r .before in
     let a = m .before .before .before .args in
-    let z = sizes (length (a .target .now)) (a .at) (length (a .source .now)) (a .from) (a .n) (m .smaller .ensures) (r .fitted-words .ensures) (h .fitted-words2 .ensures) (omega (arith, c .before .before .if1 .left)) in
+    let z = sizes (length (a .target .now)) (a .at) (length (a .source .now)) (a .from) (a .n) (m .lesser .ensures) (r .fitted-words .ensures) (h .fitted-words2 .ensures) (omega (arith, c .before .before .if1 .left)) in
     omega (arith, z .small, z .copied)
 
 copy-part-requires : tie.Need-copy-part-requires
@@ -73,7 +73,7 @@ copy-part-requires c κs =
     let r = h .before in
     let m = r .before in
     let a = m .before .before .before .args in
-    let z = sizes (length (a .target .now)) (a .at) (length (a .source .now)) (a .from) (a .n) (m .smaller .ensures) (r .fitted-words .ensures) (h .fitted-words2 .ensures) (omega (arith, c .before .before .if1 .left)) in
+    let z = sizes (length (a .target .now)) (a .at) (length (a .source .now)) (a .from) (a .n) (m .lesser .ensures) (r .fitted-words .ensures) (h .fitted-words2 .ensures) (omega (arith, c .before .before .if1 .left)) in
     (omega (arith, z .target, z .copied), z .source (omega (arith, c .before .if2 .left)), omega (arith, z .small, z .copied))
 
 mul-clear-part-2 : tie.Need-mul-clear-part-2
@@ -82,7 +82,7 @@ mul-clear-part-2 c =
     let r = h .before in
     let m = r .before in
     let a = m .before .before .before .args in
-    let z = sizes (length (a .target .now)) (a .at) (length (a .source .now)) (a .from) (a .n) (m .smaller .ensures) (r .fitted-words .ensures) (h .fitted-words2 .ensures) (omega (arith, c .before .before .before .before .before .before .if1 .left)) in
+    let z = sizes (length (a .target .now)) (a .at) (length (a .source .now)) (a .from) (a .n) (m .lesser .ensures) (r .fitted-words .ensures) (h .fitted-words2 .ensures) (omega (arith, c .before .before .before .before .before .before .if1 .left)) in
     omega (arith, z .small, z .copied)
 
 add-clear-part : tie.Need-add-clear-part
@@ -91,7 +91,7 @@ add-clear-part c =
     let r = h .before in
     let m = r .before in
     let a = m .before .before .before .args in
-    let z = sizes (length (a .target .now)) (a .at) (length (a .source .now)) (a .from) (a .n) (m .smaller .ensures) (r .fitted-words .ensures) (h .fitted-words2 .ensures) (omega (arith, c .before .before .before .before .before .before .if1 .left)) in
+    let z = sizes (length (a .target .now)) (a .at) (length (a .source .now)) (a .from) (a .n) (m .lesser .ensures) (r .fitted-words .ensures) (h .fitted-words2 .ensures) (omega (arith, c .before .before .before .before .before .before .if1 .left)) in
     omega (arith, z .target, z .copied)
 
 sub-clear-part : tie.Need-sub-clear-part
@@ -100,7 +100,7 @@ sub-clear-part c =
     let r = h .before in
     let m = r .before in
     let a = m .before .before .before .args in
-    let z = sizes (length (a .target .now)) (a .at) (length (a .source .now)) (a .from) (a .n) (m .smaller .ensures) (r .fitted-words .ensures) (h .fitted-words2 .ensures) (omega (arith, c .before .before .before .before .before .before .if1 .left)) in
+    let z = sizes (length (a .target .now)) (a .at) (length (a .source .now)) (a .from) (a .n) (m .lesser .ensures) (r .fitted-words .ensures) (h .fitted-words2 .ensures) (omega (arith, c .before .before .before .before .before .before .if1 .left)) in
     z .copied
 
 mul-clear-part-3 : tie.Need-mul-clear-part-3
@@ -109,7 +109,7 @@ mul-clear-part-3 c =
     let r = h .before in
     let m = r .before in
     let a = m .before .before .before .args in
-    let z = sizes (length (a .target .now)) (a .at) (length (a .source .now)) (a .from) (a .n) (m .smaller .ensures) (r .fitted-words .ensures) (h .fitted-words2 .ensures) (omega (arith, c .before .before .before .before .before .before .if1 .left)) in
+    let z = sizes (length (a .target .now)) (a .at) (length (a .source .now)) (a .from) (a .n) (m .lesser .ensures) (r .fitted-words .ensures) (h .fitted-words2 .ensures) (omega (arith, c .before .before .before .before .before .before .if1 .left)) in
     omega (arith, z .small)
 
 clear-part-requires-2 : tie.Need-clear-part-requires-2
@@ -119,7 +119,7 @@ clear-part-requires-2 c κs =
     let r = h .before in
     let m = r .before in
     let a = m .before .before .before .args in
-    let z = sizes (length (a .target .now)) (a .at) (length (a .source .now)) (a .from) (a .n) (m .smaller .ensures) (r .fitted-words .ensures) (h .fitted-words2 .ensures) (omega (arith, c .before .before .before .before .before .before .if1 .left)) in
+    let z = sizes (length (a .target .now)) (a .at) (length (a .source .now)) (a .from) (a .n) (m .lesser .ensures) (r .fitted-words .ensures) (h .fitted-words2 .ensures) (omega (arith, c .before .before .before .before .before .before .if1 .left)) in
     omega (
       arith,
       ap length (p .copy-part .ensures),
@@ -140,15 +140,15 @@ returns-3 c =
     let p = c .before .before .before .before .before .before in
     c .before .before .clear-part2 .ensures
     ∙ ap (λ l. sets l (a .at + 8 * h .fitted-words2 .result) (replicate (8 * (r .fitted-words .result - h .fitted-words2 .result)) 0)) (p .copy-part .ensures)
-    ∙ moved-some (m .smaller .result) (a .target .now) (a .at) (a .source .now) (a .from) (r .fitted-words .result) (h .fitted-words2 .result)
+    ∙ moved-some (m .lesser .result) (a .target .now) (a .at) (a .source .now) (a .from) (r .fitted-words .result) (h .fitted-words2 .result)
     (r .fitted-words .ensures) (h .fitted-words2 .ensures) (omega (arith, p .before .before .before .if1 .left)) (omega (arith, p .before .before .if2 .left))
-    ∙ ap (λ k. wordsMoved k (a .target .now) (a .at) (a .source .now) (a .from)) (m .smaller .ensures)
+    ∙ ap (λ k. wordsMoved k (a .target .now) (a .at) (a .source .now) (a .from)) (m .lesser .ensures)
 
 pub move-words-spec : {M : Type 1} → statement M
 move-words-spec =
     tie.close
     (tie.spec
-    smaller-requires
+    lesser-requires
     fitted-words-requires
     fitted-words-requires-2
     returns
