@@ -232,7 +232,7 @@ const SIGHTS: &[Sight] = &[
         l.before.dp.current != l.after.dp.current
     }),
     ("that let a list wait", |l| {
-        l.before.dp.endpending < l.after.dp.endpending
+        l.before.dp.end_pending < l.after.dp.end_pending
     }),
     ("that flush queued words", |l| {
         l.before.dp.queued > l.after.dp.queued

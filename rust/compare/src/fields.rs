@@ -58,10 +58,10 @@ macro_rules! fields {
 }
 
 fields! {
-    sp: splatch ramlatch spaddr ramaddr len count skip row waiting busy storing full waitstoring
-        halted broke sstep intbreak signals line semaphore;
-    dp: start end current limit clock cmdcount pipecount tmemcount startpending endpending xbus
-        freeze flush pipebusy wordsleft line;
+    sp: sp_latch ram_latch sp_addr ram_addr len count skip row_len waiting_word busy storing full waiting_storing
+        halted broke single_step interrupt_on_break signals line semaphore;
+    dp: start end current limit clock cmd_busy_count pipe_busy_count tmem_busy_count start_pending end_pending xbus
+        freeze flush pipe_busy words_left line;
     ring: queued head;
     slots: 0 1 2 3 4 5 6 7 8 9 10 11 12 13 14 15 16 17 18 19 20 21 22 23 24 25 26 27 28 29 30 31;
 }
@@ -71,19 +71,19 @@ pub const FLAGS: [&str; 17] = [
     "sp.busy",
     "sp.storing",
     "sp.full",
-    "sp.waitstoring",
+    "sp.waiting_storing",
     "sp.halted",
     "sp.broke",
-    "sp.sstep",
-    "sp.intbreak",
+    "sp.single_step",
+    "sp.interrupt_on_break",
     "sp.line",
     "sp.semaphore",
-    "dp.startpending",
-    "dp.endpending",
+    "dp.start_pending",
+    "dp.end_pending",
     "dp.xbus",
     "dp.freeze",
     "dp.flush",
-    "dp.pipebusy",
+    "dp.pipe_busy",
     "dp.line",
 ];
 

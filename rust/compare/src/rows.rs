@@ -46,8 +46,8 @@ impl Edges {
             (Some(top), None) => words.saturating_sub(top) + 4,
             (None, None) => first + words + 4,
         };
-        sp.spaddr = sp.spaddr & 0x1000 | offset;
-        sp.ramaddr = 8 * first;
+        sp.sp_addr = sp.sp_addr & 0x1000 | offset;
+        sp.ram_addr = 8 * first;
         8 * fitted as usize
     }
 }
@@ -57,7 +57,7 @@ pub fn busy(words: u32, moved: u32, count: u32, storing: u8) -> SpState {
     SpState {
         busy: 1,
         len: 8 * (words - 1),
-        row: 8 * (words + moved - 1),
+        row_len: 8 * (words + moved - 1),
         count,
         skip: 0x18,
         storing,
@@ -68,9 +68,9 @@ pub fn busy(words: u32, moved: u32, count: u32, storing: u8) -> SpState {
 /// Lets a transfer of two rows of three words wait, in this direction if there is one. It wraps in its bank.
 pub fn wait(sp: &mut SpState, direction: Option<u8>) {
     if let Some(storing) = direction {
-        (sp.full, sp.waitstoring) = (1, storing);
-        sp.waiting = 0x0080_1010;
-        (sp.splatch, sp.ramlatch) = (0x1FF0, 0x20);
+        (sp.full, sp.waiting_storing) = (1, storing);
+        sp.waiting_word = 0x0080_1010;
+        (sp.sp_latch, sp.ram_latch) = (0x1FF0, 0x20);
     }
 }
 
@@ -111,16 +111,16 @@ impl Look {
     }
 
     fn wraps_in_bank(&self) -> bool {
-        self.before.spaddr % 0x1000 / 8 + self.words() > BANK_WORDS
+        self.before.sp_addr % 0x1000 / 8 + self.words() > BANK_WORDS
     }
 
     fn wraps_at_top(&self) -> bool {
-        self.before.ramaddr / 8 + self.words() > ALL_WORDS
+        self.before.ram_addr / 8 + self.words() > ALL_WORDS
     }
 
     /// Are some of its words fitted and others not?
     fn partly_fitted(&self) -> bool {
-        let first = self.before.ramaddr / 8;
+        let first = self.before.ram_addr / 8;
         let fits = |word: &u32| (first + word) % ALL_WORDS < self.fitted;
         let fitting = (0..self.words()).filter(fits).count();
         0 < fitting && fitting < self.words() as usize
@@ -133,7 +133,7 @@ impl Look {
     }
 
     fn begun_within(&self) -> bool {
-        self.busy() && self.before.len < self.before.row
+        self.busy() && self.before.len < self.before.row_len
     }
 
     fn began_waiting(&self) -> bool {
@@ -141,12 +141,12 @@ impl Look {
     }
 
     fn ended_within(&self) -> bool {
-        self.after.busy == 1 && self.after.len < self.after.row
+        self.after.busy == 1 && self.after.len < self.after.row_len
     }
 
     /// A run went on into the second row after the one at the outset, or farther.
     fn over_rows(&self) -> bool {
-        let next = self.before.row / 8 + 1;
+        let next = self.before.row_len / 8 + 1;
         self.before.count > 1 && self.moved > self.row + next
     }
 }
@@ -157,8 +157,8 @@ type Sight = (&'static str, fn(&Look) -> bool);
 const CALLS: &[Sight] = &[
     ("loads", |l| l.busy() && l.before.storing == 0),
     ("stores", |l| l.busy() && l.before.storing == 1),
-    ("of DMEM", |l| l.busy() && l.before.spaddr < 0x1000),
-    ("of IMEM", |l| l.busy() && l.before.spaddr >= 0x1000),
+    ("of DMEM", |l| l.busy() && l.before.sp_addr < 0x1000),
+    ("of IMEM", |l| l.busy() && l.before.sp_addr >= 0x1000),
     ("begun in their middle", Look::begun_within),
     ("of one word", |l| l.row == 1),
     ("of a whole bank", |l| l.row == BANK_WORDS),

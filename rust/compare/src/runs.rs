@@ -235,7 +235,7 @@ fn consumer_end(after: &State, budget: u32, room: usize, consumed: u32) -> usize
 /// Is a byte that the SP has yet to write one that the lists have yet to fetch?
 pub fn shares(state: &State, rdram: usize) -> bool {
     let dp = &state.dp;
-    let waiting = if dp.endpending == 1 { dp.end } else { 0 };
+    let waiting = if dp.end_pending == 1 { dp.end } else { 0 };
     let lists = [(dp.current, dp.limit), (dp.start, waiting)];
     let in_rdram = |address: u32| {
         let fitted = (address as usize) < rdram;
@@ -262,21 +262,21 @@ fn yet_to_write(state: &State) -> Vec<Place> {
     let sp = &state.sp;
     let mut places = Vec::new();
     if sp.busy == 1 {
-        let base = (sp.ramaddr, sp.spaddr, sp.storing == 1);
+        let base = (sp.ram_addr, sp.sp_addr, sp.storing == 1);
         // What is left of the row under way, then the rows after it.
         places.extend(rows(base, (sp.len, 0, 0)));
         let (ram, bank) = (
-            sp.ramaddr + sp.len + 8 + sp.skip,
-            moved_on(sp.spaddr, sp.len + 8),
+            sp.ram_addr + sp.len + 8 + sp.skip,
+            moved_on(sp.sp_addr, sp.len + 8),
         );
         let rest = (ram, bank, sp.storing == 1);
         if let Some(count) = sp.count.checked_sub(1) {
-            places.extend(rows(rest, (sp.row, count, sp.skip)));
+            places.extend(rows(rest, (sp.row_len, count, sp.skip)));
         }
     }
     if sp.full == 1 {
-        let base = (sp.ramlatch, sp.splatch, sp.waitstoring == 1);
-        let word = sp.waiting;
+        let base = (sp.ram_latch, sp.sp_latch, sp.waiting_storing == 1);
+        let word = sp.waiting_word;
         let shape = (word & 0xFF8, word >> 12 & 0xFF, word >> 20 & 0xFF8);
         places.extend(rows(base, shape));
     }

@@ -61,7 +61,7 @@ impl Series {
     /// Is there nothing left to fetch or consume?
     pub fn is_drained(&self) -> bool {
         let dp = &self.state.dp;
-        dp.current >= dp.limit && dp.endpending == 0 && dp.queued == 0
+        dp.current >= dp.limit && dp.end_pending == 0 && dp.queued == 0
     }
 
     /// Goes on until it is, with some turns of one kind and then of the other.
@@ -109,7 +109,7 @@ pub fn sp_turns_first(turns: &[Turn]) -> Vec<Turn> {
 /// The queued words and then those of the lists, as they stand.
 pub fn words_to_consume(state: &State, [rdram, dmem, _]: &[Vec<u8>; 3]) -> Vec<u64> {
     let dp = &state.dp;
-    let waiting = if dp.endpending == 1 { dp.end } else { 0 };
+    let waiting = if dp.end_pending == 1 { dp.end } else { 0 };
     let lists = (dp.current..dp.limit).chain(dp.start..waiting).step_by(8);
     let word = |address: u32| {
         let (memory, at) = match dp.xbus {
@@ -123,8 +123,8 @@ pub fn words_to_consume(state: &State, [rdram, dmem, _]: &[Vec<u8>; 3]) -> Vec<u
 }
 
 /// Does a SYNC_FULL stand before the last of these words? They are framed from these words left on.
-pub fn sync_full_before_the_last(words: &[u64], wordsleft: u8) -> bool {
-    let mut left = u32::from(wordsleft);
+pub fn sync_full_before_the_last(words: &[u64], words_left: u8) -> bool {
+    let mut left = u32::from(words_left);
     let syncs = words.iter().map(|word| {
         let opcode = (word >> 56) as u8 % 64;
         let begins = left == 0;

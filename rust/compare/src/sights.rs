@@ -33,7 +33,7 @@ impl Look<'_> {
     }
 
     fn began_waiting(&self) -> bool {
-        self.before.endpending > self.after.endpending
+        self.before.end_pending > self.after.end_pending
     }
 
     /// The bits of a value written to DP STATUS with words queued.
@@ -56,7 +56,7 @@ impl Look<'_> {
 
     /// Within a command, with nothing queued: what bit 6 meant once.
     fn only_words_left(&self) -> bool {
-        self.before.queued == 0 && self.before.wordsleft > 0
+        self.before.queued == 0 && self.before.words_left > 0
     }
 
     fn runs(&self) -> bool {
@@ -118,13 +118,13 @@ const SIGHTS: &[Sight] = &[
         l.moved(Call::ConsumerTurn) && l.before.flush == 1
     }),
     ("later words of a command consumed", |l| {
-        l.moved(Call::ConsumerTurn) && l.before.wordsleft > 0
+        l.moved(Call::ConsumerTurn) && l.before.words_left > 0
     }),
     ("SYNC_FULL consumed", |l| {
         l.moved(Call::ConsumerTurn) && l.before.line < l.after.line
     }),
     ("PIPE_BUSY left off by a word consumed", |l| {
-        l.moved(Call::ConsumerTurn) && l.before.pipebusy == 0 && l.after.line == 0
+        l.moved(Call::ConsumerTurn) && l.before.pipe_busy == 0 && l.after.line == 0
     }),
     ("no word consumed while frozen", |l| {
         l.passed(Call::ConsumerTurn) && l.before.queued > 0
@@ -151,13 +151,13 @@ const SIGHTS: &[Sight] = &[
         l.steered(0x0C) == Some(0x08)
     }),
     ("DP STATUS read with words queued", |l| {
-        l.reads_status() && l.before.queued > 0 && l.before.wordsleft == 0
+        l.reads_status() && l.before.queued > 0 && l.before.words_left == 0
     }),
     ("DP STATUS read with words left alone", |l| {
         l.reads_status() && l.only_words_left()
     }),
     ("ticks with words queued", |l| {
-        l.ticks() && l.before.queued > 0 && l.before.wordsleft == 0
+        l.ticks() && l.before.queued > 0 && l.before.words_left == 0
     }),
     ("ticks with words left alone", |l| {
         l.ticks() && l.only_words_left()
@@ -169,10 +169,10 @@ const SIGHTS: &[Sight] = &[
         l.runs() && l.before.queued == FULL && l.fetched() > 0
     }),
     ("runs begun within a command", |l| {
-        l.runs() && l.before.wordsleft > 0 && l.seen.words > 0
+        l.runs() && l.before.words_left > 0 && l.seen.words > 0
     }),
     ("runs that leave words queued within a command", |l| {
-        l.runs() && l.after.wordsleft > 0 && l.after.queued > 0 && l.seen.words > 0
+        l.runs() && l.after.words_left > 0 && l.after.queued > 0 && l.seen.words > 0
     }),
     ("runs that leave words queued", |l| {
         l.runs() && l.after.queued > 0 && l.fetched() > 0

@@ -28,15 +28,15 @@ fn sound_sp(random: &mut Random, rdram: usize) -> SpState {
         _ => (random.below(u64::from(row) + 8) as u32) & 0xFF8,
     };
     SpState {
-        splatch: sp_address(random),
-        ramlatch: ram_address(random, rdram),
-        spaddr: sp_address(random),
-        ramaddr: ram_address(random, rdram),
+        sp_latch: sp_address(random),
+        ram_latch: ram_address(random, rdram),
+        sp_addr: sp_address(random),
+        ram_addr: ram_address(random, rdram),
         len,
         count: count(random),
         skip: length(random),
-        row,
-        waiting: if random.once_in(4) {
+        row_len: row,
+        waiting_word: if random.once_in(4) {
             register_value(random)
         } else {
             length_word(random)
@@ -44,11 +44,11 @@ fn sound_sp(random: &mut Random, rdram: usize) -> SpState {
         busy,
         storing: random.flag(),
         full: busy & random.flag(),
-        waitstoring: random.flag(),
+        waiting_storing: random.flag(),
         halted: random.flag(),
         broke: random.flag(),
-        sstep: random.flag(),
-        intbreak: random.flag(),
+        single_step: random.flag(),
+        interrupt_on_break: random.flag(),
         signals: random.byte(),
         line: random.flag(),
         semaphore: random.flag(),
@@ -94,16 +94,16 @@ fn sound_dp(random: &mut Random, rdram: usize) -> DpState {
         current,
         limit: list_end(random, current, rdram),
         clock: counter(random),
-        cmdcount: counter(random),
-        pipecount: counter(random),
-        tmemcount: counter(random),
-        startpending: random.flag(),
-        endpending: random.flag(),
+        cmd_busy_count: counter(random),
+        pipe_busy_count: counter(random),
+        tmem_busy_count: counter(random),
+        start_pending: random.flag(),
+        end_pending: random.flag(),
         xbus: random.flag(),
         freeze: random.flag() & random.flag(),
         flush: random.flag() & random.flag(),
-        pipebusy: random.flag(),
-        wordsleft: match random.below(4) {
+        pipe_busy: random.flag(),
+        words_left: match random.below(4) {
             0 => random.pick(&[1, 2, 20, 21]),
             1 => random.below(22) as u8,
             _ => 0,
@@ -123,9 +123,9 @@ fn settle(dp: &mut DpState) {
     }
     let runs = dp.current < dp.limit;
     if dp.freeze == 0 && !runs {
-        dp.endpending = 0;
+        dp.end_pending = 0;
     }
-    dp.startpending |= dp.endpending;
+    dp.start_pending |= dp.end_pending;
 }
 
 /// A sound state in which both engines have some words left, but for FREEZE at times; words are queued or not. Mostly the SP writes into the memory that the
@@ -138,8 +138,8 @@ pub fn both_busy(random: &mut Random, rdram: usize) -> State {
     dp.current = ram_address(random, rdram).min(0xFF_F000);
     dp.limit = dp.current + 8 * words;
     (dp.flush, dp.freeze) = (0, u8::from(random.once_in(10)));
-    (sp.busy, sp.row) = (1, sp.row & 0x78);
-    sp.len = sp.len.min(sp.row);
+    (sp.busy, sp.row_len) = (1, sp.row_len & 0x78);
+    sp.len = sp.len.min(sp.row_len);
     if random.once_in(3) {
         sp.count = random.below(4) as u32;
     }
@@ -149,8 +149,8 @@ pub fn both_busy(random: &mut Random, rdram: usize) -> State {
     if !random.once_in(3) {
         // From some words before the list to some after it.
         let place = (dp.current + 8 * random.below(u64::from(words) + 8) as u32).wrapping_sub(0x20);
-        sp.ramaddr = place & ADDRESS_BITS;
-        sp.spaddr = place & 0xFF8;
+        sp.ram_addr = place & ADDRESS_BITS;
+        sp.sp_addr = place & 0xFF8;
     }
     settle(dp);
     state
@@ -158,23 +158,23 @@ pub fn both_busy(random: &mut Random, rdram: usize) -> State {
 
 /// The ways to break a state, one clause each. A number field is broken above its width or below its multiple of 8.
 pub const BREAKS: &[&str] = &[
-    "sp.splatch",
-    "sp.ramlatch",
-    "sp.spaddr",
-    "sp.ramaddr",
+    "sp.sp_latch",
+    "sp.ram_latch",
+    "sp.sp_addr",
+    "sp.ram_addr",
     "sp.len",
     "sp.count",
     "sp.skip",
-    "sp.row",
+    "sp.row_len",
     "dp.start",
     "dp.end",
     "dp.current",
     "dp.limit",
     "dp.clock",
-    "dp.cmdcount",
-    "dp.pipecount",
-    "dp.tmemcount",
-    "dp.wordsleft",
+    "dp.cmd_busy_count",
+    "dp.pipe_busy_count",
+    "dp.tmem_busy_count",
+    "dp.words_left",
     "dp.queued",
     "dp.head",
     "flag",
@@ -192,14 +192,14 @@ pub fn break_clause(random: &mut Random, state: &mut State, clause: &str) {
         "FULL without BUSY" => (sp.full, sp.busy) = (1, 0),
         "LEN above ROW" => {
             sp.busy = 1;
-            sp.row &= 0x7F8;
-            sp.len = sp.row + 8 + (random.word() & 0x7F8);
+            sp.row_len &= 0x7F8;
+            sp.len = sp.row_len + 8 + (random.word() & 0x7F8);
         }
         "END_PENDING alone" => {
-            (dp.endpending, dp.startpending, dp.freeze) = (1, 0, 1);
+            (dp.end_pending, dp.start_pending, dp.freeze) = (1, 0, 1);
         }
         "END_PENDING with nothing running" => {
-            (dp.endpending, dp.startpending, dp.freeze) = (1, 1, 0);
+            (dp.end_pending, dp.start_pending, dp.freeze) = (1, 1, 0);
             dp.limit = dp.limit.min(dp.current);
         }
         "FLUSH with a list running" => {
@@ -219,17 +219,19 @@ pub fn break_clause(random: &mut Random, state: &mut State, clause: &str) {
 fn break_number(random: &mut Random, state: &mut State, name: &str) {
     let field = field(name);
     let (span, eights) = match name {
-        "sp.splatch" | "sp.spaddr" => (0x2000, true),
-        "sp.len" | "sp.skip" | "sp.row" => (0x1000, true),
+        "sp.sp_latch" | "sp.sp_addr" => (0x2000, true),
+        "sp.len" | "sp.skip" | "sp.row_len" => (0x1000, true),
         "sp.count" => (0x100, false),
-        "dp.wordsleft" => (22, false),
+        "dp.words_left" => (22, false),
         "dp.queued" => (33, false),
         "dp.head" => (32, false),
-        "dp.clock" | "dp.cmdcount" | "dp.pipecount" | "dp.tmemcount" => (1 << 24, false),
+        "dp.clock" | "dp.cmd_busy_count" | "dp.pipe_busy_count" | "dp.tmem_busy_count" => {
+            (1 << 24, false)
+        }
         _ => (1 << 24, true),
     };
     let most = match name {
-        "dp.wordsleft" | "dp.queued" | "dp.head" => 0xFF,
+        "dp.words_left" | "dp.queued" | "dp.head" => 0xFF,
         _ => u32::MAX,
     };
     let value = (field.get)(state);

@@ -79,8 +79,8 @@ pub fn sp_left(state: &State) -> u64 {
     if sp.busy == 0 {
         return 0;
     }
-    let running = u64::from(sp.len / 8 + 1) + u64::from(sp.count) * u64::from(sp.row / 8 + 1);
-    let waiting = words(sp.waiting & 0xFF8, sp.waiting >> 12 & 0xFF);
+    let running = u64::from(sp.len / 8 + 1) + u64::from(sp.count) * u64::from(sp.row_len / 8 + 1);
+    let waiting = words(sp.waiting_word & 0xFF8, sp.waiting_word >> 12 & 0xFF);
     running + u64::from(sp.full) * waiting
 }
 
@@ -89,7 +89,7 @@ pub fn dp_left(state: &State) -> u64 {
     let dp = &state.dp;
     let running = dp.limit.saturating_sub(dp.current) / 8;
     let waiting = dp.end.saturating_sub(dp.start) / 8;
-    u64::from(running) + u64::from(dp.endpending) * u64::from(waiting)
+    u64::from(running) + u64::from(dp.end_pending) * u64::from(waiting)
 }
 
 /// The words that are queued and those of the lists.

@@ -61,7 +61,7 @@ impl Watch {
             Record::Tick { n } => self.tick(n),
             Record::Break => {
                 self.events
-                    .see_if(self.state.sp.intbreak == 1, Event::BreakLine);
+                    .see_if(self.state.sp.interrupt_on_break == 1, Event::BreakLine);
                 self.state = calls::sp_break(&self.state).state;
             }
             Record::Acknowledge => {
@@ -125,7 +125,7 @@ impl Watch {
                 events.see_if(sp.busy == 1, Event::TransferWaits);
                 events.see_if(full, Event::WaitingReplaced);
             }
-            DP_START => events.see_if(before.dp.endpending == 1, Event::StartWhileWaiting),
+            DP_START => events.see_if(before.dp.end_pending == 1, Event::StartWhileWaiting),
             DP_END => self.wrote_end(&before),
             DP_STATUS => self.wrote_status(&before),
             _ => {}
@@ -135,13 +135,13 @@ impl Watch {
     fn wrote_end(&mut self, before: &State) {
         let (was, is) = (&before.dp, &self.state.dp);
         let runs = is.current < is.limit;
-        let pipe_off = was.pipebusy == 0;
+        let pipe_off = was.pipe_busy == 0;
         let events = &mut self.events;
-        if was.startpending == 0 {
+        if was.start_pending == 0 {
             events.see(Event::EndMoved);
             events.see_if(!runs, Event::EndNotAbove);
             events.see_if(runs && pipe_off, Event::PipeOffMoved);
-        } else if is.endpending == 1 {
+        } else if is.end_pending == 1 {
             events.see(Event::ListWaits);
         } else {
             events.see(Event::ListBegan);
@@ -156,12 +156,12 @@ impl Watch {
     fn wrote_status(&mut self, before: &State) {
         let (was, is) = (&before.dp, &self.state.dp);
         let ran = was.current < was.limit;
-        let flushed = is.flush == 1 && is.limit == is.current && is.startpending == 0;
+        let flushed = is.flush == 1 && is.limit == is.current && is.start_pending == 0;
         let events = &mut self.events;
         events.see_if(ran && is.flush == 1, Event::FlushRunning);
-        events.see_if(flushed && was.endpending == 1, Event::FlushWaiting);
+        events.see_if(flushed && was.end_pending == 1, Event::FlushWaiting);
         events.see_if(
-            flushed && was.wordsleft > is.wordsleft,
+            flushed && was.words_left > is.words_left,
             Event::FlushMidCommand,
         );
         let queued = !before.queue.is_empty();
@@ -169,9 +169,9 @@ impl Watch {
         events.see_if(ran && was.freeze < is.freeze, Event::FrozenRunning);
         events.see_if(queued && was.freeze < is.freeze, Event::FrozenQueued);
         events.see_if(ran && was.xbus != is.xbus, Event::XbusMidList);
-        let began = was.endpending == 1 && is.endpending == 0 && is.flush == 0;
+        let began = was.end_pending == 1 && is.end_pending == 0 && is.flush == 0;
         events.see_if(began, Event::WaitingListByWrite);
-        events.see_if(began && was.pipebusy == 0, Event::PipeOffByWrite);
+        events.see_if(began && was.pipe_busy == 0, Event::PipeOffByWrite);
     }
 
     fn tick(&mut self, n: u32) {
@@ -180,11 +180,11 @@ impl Watch {
         let wrapped = self.state.dp.clock < before.clock;
         self.events.see_if(wrapped, Event::ClockWrap);
         let queued = !self.state.queue.is_empty();
-        let busy = queued || before.pipebusy == 1;
+        let busy = queued || before.pipe_busy == 1;
         let events = &mut self.events;
         events.see_if(busy, Event::BusyTick);
         events.see_if(queued, Event::QueuedTick);
-        events.see_if(!queued && before.wordsleft > 0, Event::WordsLeftTick);
+        events.see_if(!queued && before.words_left > 0, Event::WordsLeftTick);
     }
 
     fn budget(&mut self, budget: u32) {
@@ -202,10 +202,10 @@ impl Watch {
         let events = &mut self.events;
         events.see_if(idle && acted, Event::IdleStop);
         events.see_if(!idle, Event::BudgetStop);
-        events.see_if(acted && before.len < before.row, Event::RowBegunWithin);
-        let within = !idle && after.len < after.row;
+        events.see_if(acted && before.len < before.row_len, Event::RowBegunWithin);
+        let within = !idle && after.len < after.row_len;
         events.see_if(acted && within, Event::RowEndedWithin);
-        let two_rows = before.len / 8 + before.row / 8 + 2;
+        let two_rows = before.len / 8 + before.row_len / 8 + 2;
         let several = before.count > 1 && moved > two_rows;
         events.see_if(several, Event::SeveralRows);
     }
@@ -224,11 +224,11 @@ impl Watch {
     /// What the queue was and is, of a run that fetched or consumed.
     fn queue_of_run(&mut self, before: &State, done: &Rounds) {
         let left = self.state.queue.len();
-        let (within, consumed) = (before.dp.wordsleft > 0, !done.words.is_empty());
+        let (within, consumed) = (before.dp.words_left > 0, !done.words.is_empty());
         let events = &mut self.events;
         events.see_if(consumed && !before.queue.is_empty(), Event::QueuedRun);
         events.see_if(consumed && within, Event::MidCommandRun);
-        let within = consumed && self.state.dp.wordsleft > 0;
+        let within = consumed && self.state.dp.words_left > 0;
         events.see_if(within && left > 0, Event::MidCommandLeft);
         events.see_if(left > 0 && done.fetched > 0, Event::LeftQueued);
         events.see_if(left == QUEUE_WORDS && done.fetched > 0, Event::LeftFull);
@@ -316,16 +316,16 @@ impl Watch {
     /// One SP turn with a word to move; whether it moved it.
     fn sp_turn(&mut self) -> bool {
         let sp = self.state.sp;
-        let past = sp.ramaddr as usize >= self.rdram.len();
+        let past = sp.ram_addr as usize >= self.rdram.len();
         let events = &mut self.events;
         events.see_if(sp.storing == 0, Event::Loaded);
         events.see_if(sp.storing == 1, Event::Stored);
         events.see_if(sp.storing == 0 && past, Event::LoadedZeros);
         events.see_if(sp.storing == 1 && past, Event::DroppedStore);
-        events.see_if(sp.spaddr & 0xFF8 == 0xFF8, Event::BankEnd);
-        events.see_if(sp.ramaddr == 0xFF_FFF8, Event::WordWrap);
+        events.see_if(sp.sp_addr & 0xFF8 == 0xFF8, Event::BankEnd);
+        events.see_if(sp.ram_addr == 0xFF_FFF8, Event::WordWrap);
         let row = sp.len == 0 && sp.count > 0;
-        let skipped = (sp.ramaddr + 8) % (1 << 24) + sp.skip;
+        let skipped = (sp.ram_addr + 8) % (1 << 24) + sp.skip;
         events.see_if(row, Event::RowEnd);
         events.see_if(row && sp.skip > 0, Event::RowSkipped);
         events.see_if(row && skipped >= 1 << 24, Event::SkipWrap);
@@ -358,8 +358,8 @@ impl Watch {
         events.see_if(dmem && before.current & 0xFF8 == 0xFF8, Event::DmemEnd);
         events.see_if(self.state.queue.len() == QUEUE_WORDS, Event::QueueFilled);
         let after = &self.state.dp;
-        events.see_if(before.pipebusy < after.pipebusy, Event::PipeOn);
-        let began = before.endpending == 1 && after.endpending == 0;
+        events.see_if(before.pipe_busy < after.pipe_busy, Event::PipeOn);
+        let began = before.end_pending == 1 && after.end_pending == 0;
         events.see_if(began, Event::WaitingListByTurn);
         true
     }
@@ -376,7 +376,7 @@ impl Watch {
         let sync = first % 64 == 0x29;
         let events = &mut self.events;
         events.see(Event::Consumed);
-        if before.wordsleft == 0 {
+        if before.words_left == 0 {
             events.first_bytes[first as usize] += 1;
             events.see_if(sync, Event::SyncFull);
             events.see_if(sync && !self.state.queue.is_empty(), Event::SyncFullBefore);
@@ -384,7 +384,7 @@ impl Watch {
             events.see_if(sync, Event::SyncFullLook);
         }
         let after = &self.state.dp;
-        events.see_if(before.pipebusy > after.pipebusy, Event::PipeOff);
+        events.see_if(before.pipe_busy > after.pipe_busy, Event::PipeOff);
         Some(outcome.answer.value)
     }
 }

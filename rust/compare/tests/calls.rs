@@ -62,7 +62,7 @@ fn registers() {
                 let value = value_for(&mut random, address, rdram);
                 let seen = comparison.check(&plain(state, Call::Write { address, value }));
                 // No write changes it, whatever list starts or ends.
-                assert_eq!(seen.outcome.state.dp.pipebusy, state.dp.pipebusy);
+                assert_eq!(seen.outcome.state.dp.pipe_busy, state.dp.pipe_busy);
             }
         }
     }
@@ -143,16 +143,16 @@ impl Words {
     /// Counts the word of a DP turn. PIPE_BUSY is on after it, and it is not framed.
     fn see_fetch(&mut self, before: &State, outcome: &Outcome) {
         self.fetched += 1;
-        self.pipe[before.dp.pipebusy as usize][3] += 1;
+        self.pipe[before.dp.pipe_busy as usize][3] += 1;
         let after = &outcome.state.dp;
-        assert_eq!((outcome.answer.value, after.pipebusy), (0, 1));
-        assert_eq!(after.wordsleft, before.dp.wordsleft);
+        assert_eq!((outcome.answer.value, after.pipe_busy), (0, 1));
+        assert_eq!(after.words_left, before.dp.words_left);
     }
 
     /// Counts the word of a consumer turn. PIPE_BUSY is off after a SYNC_FULL, and else as before.
     fn see(&mut self, before: &State, outcome: &Outcome) {
         let opcode = (outcome.answer.value >> 56) as usize % 64;
-        let begins = before.dp.wordsleft == 0;
+        let begins = before.dp.words_left == 0;
         let kind = match (begins, opcode) {
             (false, _) => 1,
             (true, 0x29) => 2,
@@ -160,9 +160,9 @@ impl Words {
         };
         self.consumed += 1;
         self.framed[opcode] += u32::from(begins);
-        self.pipe[before.dp.pipebusy as usize][kind] += 1;
-        let pipe = if kind == 2 { 0 } else { before.dp.pipebusy };
-        assert_eq!(outcome.state.dp.pipebusy, pipe);
+        self.pipe[before.dp.pipe_busy as usize][kind] += 1;
+        let pipe = if kind == 2 { 0 } else { before.dp.pipe_busy };
+        assert_eq!(outcome.state.dp.pipe_busy, pipe);
     }
 }
 
@@ -338,8 +338,8 @@ fn huge_memory(comparison: &mut Comparison, random: &mut Random) {
         for kind in (ON_MEMORY..ON_A_STATE).chain([RUN]) {
             let lent = Lent::new(length, 3);
             let mut state = sound(random, length);
-            (state.sp.ramaddr, state.dp.freeze) = (0xFF_FFF8, 0);
-            if state.dp.endpending == 0 && state.dp.flush == 0 {
+            (state.sp.ram_addr, state.dp.freeze) = (0xFF_FFF8, 0);
+            if state.dp.end_pending == 0 && state.dp.flush == 0 {
                 (state.dp.current, state.dp.limit) = (0xFF_FFE8, 0xFF_FFF8);
             }
             let call = call_of(random, kind, &state, lent.rdram);

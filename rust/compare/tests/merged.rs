@@ -59,8 +59,8 @@ fn four_words_each(after: i32, xbus: bool, queued: u8) -> State {
     let mut state = ofersky::power_up();
     let place = 0x100u32.wrapping_add_signed(8 * after);
     let State { sp, dp, queue } = &mut state;
-    (sp.busy, sp.len, sp.row) = (1, 0x18, 0x18);
-    (sp.spaddr, sp.ramaddr) = (place, place);
+    (sp.busy, sp.len, sp.row_len) = (1, 0x18, 0x18);
+    (sp.sp_addr, sp.ram_addr) = (place, place);
     (sp.storing, dp.xbus) = (u8::from(!xbus), u8::from(xbus));
     // With XBUS the list stands above DMEM and is read there.
     dp.current = if xbus { 0x3100 } else { 0x100 };
@@ -171,8 +171,8 @@ fn beside(way: Way, sp: SpState, budget: u32) -> (State, Call) {
     state.sp = sp;
     state.dp.freeze = freeze;
     let third = match sp.storing {
-        0 => sp.spaddr % 0x1000 + 0x10,
-        _ => sp.ramaddr + 0x10,
+        0 => sp.sp_addr % 0x1000 + 0x10,
+        _ => sp.ram_addr + 0x10,
     };
     // A list does not go round at the top of RDRAM.
     state.dp.current = if third < 0xFF_0000 { third } else { 0 };
@@ -183,7 +183,7 @@ fn beside(way: Way, sp: SpState, budget: u32) -> (State, Call) {
 
 /// The budgets that end within a row, with it, some words after it, with the next row and with all that is left, or beside these.
 fn sp_budgets(sp: &SpState) -> Vec<u32> {
-    let (words, row) = (sp.len / 8 + 1, sp.row / 8 + 1);
+    let (words, row) = (sp.len / 8 + 1, sp.row_len / 8 + 1);
     let state = State {
         sp: *sp,
         ..State::default()
@@ -231,7 +231,7 @@ fn rows_for_runs() -> Vec<(SpState, usize)> {
                 for (i, (count, waiting)) in ENDS.into_iter().enumerate() {
                     for storing in [0, 1] {
                         let mut sp = busy(words, moved, count, storing);
-                        sp.spaddr = u32::from(storing ^ i as u8 & 1) << 12;
+                        sp.sp_addr = u32::from(storing ^ i as u8 & 1) << 12;
                         wait(&mut sp, waiting);
                         let rdram = edges.place(&mut sp, words);
                         rows.push((sp, rdram));
@@ -269,7 +269,7 @@ fn runs_of_the_sp_alone() {
     for (sp, rdram) in rows_for_runs() {
         for (budget, way) in sp_budgets(&sp).into_iter().zip(&mut ways) {
             let (state, call) = beside(way, sp, budget);
-            let lent = Lent::new(rdram, 1 + u64::from(sp.ramaddr / 8 + sp.spaddr));
+            let lent = Lent::new(rdram, 1 + u64::from(sp.ram_addr / 8 + sp.sp_addr));
             sides.check(&Case { state, lent, call });
         }
     }
@@ -294,7 +294,7 @@ fn any_runs_of_the_sp_alone() {
         let moved = random.below(u64::from(BANK_WORDS - words) + 1) as u32;
         let moved = moved.min(random.pick(&[0, 0, 9, 512]));
         let mut sp = busy(words, moved, random.below(3) as u32, random.flag());
-        sp.spaddr = random.word() & 0x1000;
+        sp.sp_addr = random.word() & 0x1000;
         let waiting = random.pick(&[None, None, Some(0), Some(1)]);
         wait(&mut sp, waiting);
         let mut rdram = Edges { bank, top, length }.place(&mut sp, words);
@@ -428,7 +428,7 @@ fn drained(random: &mut Random, state: State, lent: &Lent, sp_turns: &[Turn]) ->
 /// What two series must have in common, beside the words: SP answers, memories and the end state. PIPE_BUSY is left out if it may differ.
 fn in_common(mut series: Series, pipe_counts: bool) -> Series {
     if !pipe_counts {
-        series.state.dp.pipebusy = 0;
+        series.state.dp.pipe_busy = 0;
     }
     let [sp, ..] = series.answers;
     series.answers = [sp, Vec::new(), Vec::new()];
@@ -504,12 +504,12 @@ fn drained_series() {
         let pair = Pair::new(&mut random);
         let (state, [one, other]) = (&pair.state, &pair.series);
         let words = words_to_consume(state, &pair.lent.bytes());
-        let sync_before = sync_full_before_the_last(&words, state.dp.wordsleft);
+        let sync_before = sync_full_before_the_last(&words, state.dp.words_left);
         let shares = shares(state, pair.lent.rdram);
         if !shares {
             pair.agrees(&words, !sync_before);
         }
-        let pipe_differs = one.state.dp.pipebusy != other.state.dp.pipebusy;
+        let pipe_differs = one.state.dp.pipe_busy != other.state.dp.pipe_busy;
         let declined = pair.sp_turns.contains(&Turn::DeclinedSp);
         orders.apart += u64::from(!shares);
         orders.shared += u64::from(shares);

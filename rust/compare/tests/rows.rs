@@ -66,7 +66,7 @@ fn row(sp: SpState, rdram: usize) -> Case {
     state.queue = std::array::from_fn(|i| 0x2700_0000_0000_0000 + i as u64);
     Case {
         state,
-        lent: Lent::new(rdram, 1 + u64::from(sp.ramaddr / 8 + sp.spaddr)),
+        lent: Lent::new(rdram, 1 + u64::from(sp.ram_addr / 8 + sp.sp_addr)),
         call: Call::SpRow,
     }
 }
@@ -90,7 +90,7 @@ fn at_edges(sides: &mut Sides, words: u32, edges: Edges) {
     for (storing, bank) in [(0, 0), (0, 0x1000), (1, 0), (1, 0x1000)] {
         for (i, (count, waiting)) in (0..).zip(ENDS) {
             let mut sp = busy(words, i % 2 * 2, count, storing);
-            sp.spaddr = bank;
+            sp.sp_addr = bank;
             wait(&mut sp, waiting);
             let rdram = edges.place(&mut sp, words);
             assert_eq!(edges_found(&sp, words, rdram), edges);
@@ -101,11 +101,11 @@ fn at_edges(sides: &mut Sides, words: u32, edges: Edges) {
 
 /// The edges that the words of a row pass, by their addresses one by one.
 fn edges_found(sp: &SpState, words: u32, rdram: usize) -> Edges {
-    let address = |c: u32| (sp.ramaddr + 8 * c) % (1 << 24);
+    let address = |c: u32| (sp.ram_addr + 8 * c) % (1 << 24);
     let fits = |c: u32| (address(c) as usize) < rdram;
     let later = || 1..words;
     Edges {
-        bank: later().find(|c| (sp.spaddr + 8 * c) % 0x1000 == 0),
+        bank: later().find(|c| (sp.sp_addr + 8 * c) % 0x1000 == 0),
         top: later().find(|c| address(*c) == 0),
         length: later().find(|c| fits(c - 1) && !fits(*c)),
     }
@@ -150,7 +150,7 @@ fn edges_of_the_longest_rdram() {
         assert!(!edges.are_small());
         for storing in [0, 1] {
             let mut sp = busy(5, 1, i % 2, storing);
-            sp.spaddr = u32::from(storing ^ (i % 2) as u8) << 12;
+            sp.sp_addr = u32::from(storing ^ (i % 2) as u8) << 12;
             let rdram = edges.place(&mut sp, 5);
             // At the top, the length is no edge: past it every address is fitted again.
             let found = edges_found(&sp, 5, rdram);
@@ -176,7 +176,7 @@ fn every_length() {
                 length: half(2),
             };
             let mut sp = busy(words, 0, words % 3, (words + edge) as u8 & 1);
-            sp.spaddr = words << 9 & 0x1000;
+            sp.sp_addr = words << 9 & 0x1000;
             let rdram = edges.place(&mut sp, words);
             sides.accepted(&row(sp, rdram));
             sides.accepted(&row(sp, 0));
@@ -199,7 +199,7 @@ fn whole_banks_from_each_offset() {
                 top,
                 length: length.filter(|_| top.is_none()),
             };
-            sp.spaddr = u32::from(storing) << 12;
+            sp.sp_addr = u32::from(storing) << 12;
             let rdram = edges.place(&mut sp, BANK_WORDS);
             sides.accepted(&row(sp, rdram));
         }
@@ -243,7 +243,7 @@ fn rows_begun_in_their_middle() {
                 let turn = ofersky::sp_turn(state, &mut rdram, &mut dmem, &mut imem);
                 state = turn.state;
             }
-            middle += u32::from(state.sp.len < state.sp.row);
+            middle += u32::from(state.sp.len < state.sp.row_len);
             // Three rows and two, of which the first may be moved already.
             let rows = if turns == words { 4 } else { 5 };
             for i in 0..rows + 2 {
@@ -267,7 +267,7 @@ fn any_rows() {
         let lent = good_lengths(&mut random);
         let mut state = sound(&mut random, lent.rdram);
         // Most are busy, which must then be sound.
-        if state.sp.len <= state.sp.row && !random.once_in(4) {
+        if state.sp.len <= state.sp.row_len && !random.once_in(4) {
             state.sp.busy = 1;
         }
         let call = Call::SpRow;

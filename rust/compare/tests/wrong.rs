@@ -27,7 +27,7 @@ fn skip_after_the_last_row(case: &Case) -> Seen {
     let ended = seen.number() == 0 && seen.outcome.answer.count > 0;
     let sp = &mut seen.outcome.state.sp;
     if ended && sp.busy == 0 && sp.len == 0xFF8 {
-        sp.ramaddr = (sp.ramaddr + sp.skip) % (1 << 24);
+        sp.ram_addr = (sp.ram_addr + sp.skip) % (1 << 24);
     }
     seen
 }
@@ -37,7 +37,7 @@ fn sync_full_by_the_whole_byte(case: &Case) -> Seen {
     let mut seen = model(case);
     let [.., output, _] = &seen.bytes;
     let whole = output.chunks(8).next().is_some_and(|word| word[0] == 0xE9);
-    if case.state.dp.wordsleft == 0 && seen.words > 0 && whole {
+    if case.state.dp.words_left == 0 && seen.words > 0 && whole {
         seen.outcome.state.dp.line = case.state.dp.line;
     }
     seen
@@ -182,7 +182,7 @@ fn clears_a_slot_and_declines(case: &Case) -> Seen {
 fn bit_6_by_words_left(case: &Case) -> Seen {
     let mut seen = model(case);
     let value = &mut seen.outcome.answer.value;
-    *value = *value & !0x40 | u64::from(case.state.dp.wordsleft > 0) << 6;
+    *value = *value & !0x40 | u64::from(case.state.dp.words_left > 0) << 6;
     seen
 }
 
@@ -193,7 +193,7 @@ fn row_from_its_start(case: &Case) -> Seen {
         return seen;
     }
     let mut case = case.clone();
-    case.state.sp.len = case.state.sp.row;
+    case.state.sp.len = case.state.sp.row_len;
     model(&case)
 }
 
@@ -201,7 +201,7 @@ fn row_from_its_start(case: &Case) -> Seen {
 fn drops_the_whole_row(case: &Case) -> Seen {
     let mut seen = model(case);
     let sp = &case.state.sp;
-    let end = sp.ramaddr as usize + 8 * row_words(&case.state) as usize;
+    let end = sp.ram_addr as usize + 8 * row_words(&case.state) as usize;
     if sp.storing == 1 && end > case.lent.rdram {
         [seen.bytes[0], ..] = case.lent.bytes();
     }
@@ -457,7 +457,7 @@ fn wrong_sides_are_found() {
     assert!(skip.starts_with("difference at recording "));
     assert_eq!(pieces(&shortest).len(), 2, "a write and a run suffice");
     assert_eq!(&hex(&shortest)[..10], "0104040008");
-    assert!(skip.contains("\n  sp.ramaddr: expected 0x8 by the model, given 0x10 by the library"));
+    assert!(skip.contains("\n  sp.ram_addr: expected 0x8 by the model, given 0x10 by the library"));
 
     assert!(shown_recording(&line_end).is_empty());
     assert!(line_end.contains("\n  written: expected 0x"));
@@ -494,15 +494,15 @@ fn shown_run([sp, dp, consumer]: [u32; 3], out: usize) -> String {
 
 /// Each by two words of a row: one is moved already, one is past the lent length, and one is past the budget.
 fn wrong_rows_are_found([start, whole, block]: &[String; 3]) {
-    assert!(start.contains("sp_row\nstate: sp.row 0x8, sp.busy 0x1\n"));
+    assert!(start.contains("sp_row\nstate: sp.row_len 0x8, sp.busy 0x1\n"));
     assert!(start.contains("\n  count: expected 0x1 by the model, given 0x2 by the library"));
 
-    assert!(whole.contains("sp.len 0x8, sp.row 0x8, sp.busy 0x1, sp.storing 0x1\n"));
+    assert!(whole.contains("sp.len 0x8, sp.row_len 0x8, sp.busy 0x1, sp.storing 0x1\n"));
     assert!(whole.contains("memory: RDRAM 8 bytes, "));
     assert!(whole.contains("differs:\n  RDRAM at 0x0: expected "));
 
     assert!(block.contains(&shown_run([1, 0, 0], 0)));
-    assert!(block.contains("sp.len 0x8, sp.row 0x8, sp.busy 0x1\n"));
+    assert!(block.contains("sp.len 0x8, sp.row_len 0x8, sp.busy 0x1\n"));
     assert!(block.contains("\n  count: expected 0x1 by the model, given 0x2 by the library"));
 }
 
@@ -512,11 +512,11 @@ fn wrong_bursts_are_found([back, on, value, most]: &[String; 4]) {
         format!("write_registers of {pairs} addresses and {pairs} values\nstate: as at power-up\n")
     };
     assert!(back.contains(&(of_pairs(2) + "  SPADDR, 0x00000008\n  0x")));
-    assert!(back.contains("differs:\n  sp.splatch: expected 0x8 by the model, given 0x0"));
+    assert!(back.contains("differs:\n  sp.sp_latch: expected 0x8 by the model, given 0x0"));
 
     assert!(on.contains(&(of_pairs(2) + "  0x")));
     assert!(on.contains(", 0x00000000\n  RAMADDR, 0x00000008\ndiffers:\n"));
-    assert!(on.contains("differs:\n  sp.ramlatch: expected 0x0 by the model, given 0x8"));
+    assert!(on.contains("differs:\n  sp.ram_latch: expected 0x0 by the model, given 0x8"));
 
     assert!(value.contains(&(of_pairs(1) + "  CURRENT, 0x00000001\ndiffers:\n")));
     assert!(value.contains("differs:\n  values at 0x0: expected 0x00000001 by the model, given"));
@@ -542,7 +542,7 @@ fn wrong_queues_are_found([begins, room, ring, declined, bit_6]: &[String; 5]) {
     assert!(declined.contains("state: queue[0] 0x1\n"));
     assert!(declined.contains("\n  queue[0]: expected 0x1 by the model, given 0x0"));
 
-    assert!(bit_6.contains("state: dp.wordsleft 0x1\n"));
+    assert!(bit_6.contains("state: dp.words_left 0x1\n"));
     assert!(bit_6.contains("\n  value: expected 0x80 by the model, given 0xC0 by the library"));
 }
 

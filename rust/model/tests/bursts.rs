@@ -60,9 +60,9 @@ fn unsound_states() -> Vec<State> {
         }
     }
     add(&|state| state.sp.busy = 0);
-    add(&|state| state.sp.len = state.sp.row + 8);
+    add(&|state| state.sp.len = state.sp.row_len + 8);
     add(&|state| state.dp.limit = state.dp.current);
-    add(&|state| state.dp.wordsleft = 22);
+    add(&|state| state.dp.words_left = 22);
     add(&|state| state.queue = vec![0; 33]);
     add(&|state| state.dp.head = 32);
     states
@@ -96,7 +96,7 @@ fn a_state_that_is_not_sound_gives_4() {
 fn at_most_64_pairs() {
     for count in [1, 2, 63, 64] {
         let bench = after(&latches(count));
-        assert_eq!(bench.state.sp.ramlatch, 8 * count);
+        assert_eq!(bench.state.sp.ram_latch, 8 * count);
         expect_latch(bench, 8 * count);
     }
     // Some of these are 0 or 64 when cut to 8 or to 16 bits.
@@ -311,9 +311,9 @@ fn addresses_and_values_are_not_exchanged() {
     let addresses = [SP_RAMADDR, DP_START];
     let values = [DP_START, SP_RAMADDR];
     let mut expected = power_up();
-    expected.sp.ramlatch = 0x10_0000;
+    expected.sp.ram_latch = 0x10_0000;
     expected.dp.start = 0x04_0000;
-    expected.dp.startpending = 1;
+    expected.dp.start_pending = 1;
     let outcome = write_registers(&power_up(), &addresses, &values);
     assert_eq!((outcome.state, outcome.answer), (expected, success(0, 2)));
     // A value may be what no address is.
@@ -346,9 +346,9 @@ fn a_burst_of_every_register() {
         3,
         4,
     ];
-    (expected.sp.splatch, expected.sp.ramlatch) = (0x1FF8, 0xFF_FFF8);
+    (expected.sp.sp_latch, expected.sp.ram_latch) = (0x1FF8, 0xFF_FFF8);
     // Busy and full: the second word replaces the first, which replaced the old one.
-    (expected.sp.waiting, expected.sp.waitstoring) = (0x8765_4321, 1);
+    (expected.sp.waiting_word, expected.sp.waiting_storing) = (0x8765_4321, 1);
     (expected.sp.halted, expected.sp.semaphore) = (1, 0);
     // A list runs and another waits for it, with START and END of now.
     (expected.dp.start, expected.dp.end) = (0xAB_CDE8, 0xFF_FFF8);
@@ -670,8 +670,13 @@ fn flush_of_a_state_with_most_flags_on() {
     let mut expected = full_state();
     let dp = &mut expected.dp;
     (dp.flush, dp.limit, dp.end) = (1, 0x90, 0x200);
-    (dp.startpending, dp.endpending, dp.wordsleft) = (0, 0, 0);
-    (dp.clock, dp.cmdcount, dp.pipecount, dp.tmemcount) = (0, 0, 0, 0);
+    (dp.start_pending, dp.end_pending, dp.words_left) = (0, 0, 0);
+    (
+        dp.clock,
+        dp.cmd_busy_count,
+        dp.pipe_busy_count,
+        dp.tmem_busy_count,
+    ) = (0, 0, 0, 0);
     expected.queue = Vec::new();
     let answer = bench.burst(&[
         (DP_STATUS, 0x20),

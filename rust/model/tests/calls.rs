@@ -162,8 +162,8 @@ fn break_acknowledge_and_tick_change_only_their_fields() {
     assert_eq!(outcome.state, after);
 
     let mut quiet = full.clone();
-    quiet.sp.intbreak = 0;
-    after.sp.intbreak = 0;
+    quiet.sp.interrupt_on_break = 0;
+    after.sp.interrupt_on_break = 0;
     after.sp.line = 0;
     assert_eq!(sp_break(&quiet).state, after);
 
@@ -174,8 +174,8 @@ fn break_acknowledge_and_tick_change_only_their_fields() {
     // 24 bits: the second sum wraps, and a tick is cut like its sum.
     after = full.clone();
     after.dp.clock = 0x1010;
-    after.dp.cmdcount = 0x0F;
-    after.dp.pipecount = 0x1030;
+    after.dp.cmd_busy_count = 0x0F;
+    after.dp.pipe_busy_count = 0x1030;
     let outcome = tick(&full, 0xAB00_1000);
     assert_eq!((outcome.state, outcome.answer), (after, success(0, 0)));
 }
@@ -183,17 +183,17 @@ fn break_acknowledge_and_tick_change_only_their_fields() {
 #[test]
 fn counters_stand_where_their_status_bits_are_off() {
     let mut state = full_state();
-    state.dp.cmdcount = 0x20;
+    state.dp.cmd_busy_count = 0x20;
     // Words left play no part in CMD_BUSY: a queued word does.
-    for (queued, wordsleft) in [(0, 0), (0, 21), (1, 0), (1, 21), (2, 0), (32, 1)] {
-        for pipebusy in [0, 1] {
+    for (queued, words_left) in [(0, 0), (0, 21), (1, 0), (1, 21), (2, 0), (32, 1)] {
+        for pipe_busy in [0, 1] {
             state.queue = vec![0; queued];
-            state.dp.wordsleft = wordsleft;
-            state.dp.pipebusy = pipebusy;
+            state.dp.words_left = words_left;
+            state.dp.pipe_busy = pipe_busy;
             let mut after = state.clone();
             after.dp.clock = 0x13;
-            after.dp.cmdcount = if queued > 0 { 0x23 } else { 0x20 };
-            after.dp.pipecount = if pipebusy == 1 { 0x33 } else { 0x30 };
+            after.dp.cmd_busy_count = if queued > 0 { 0x23 } else { 0x20 };
+            after.dp.pipe_busy_count = if pipe_busy == 1 { 0x33 } else { 0x30 };
             assert_eq!(tick(&state, 3).state, after);
         }
     }
@@ -263,7 +263,10 @@ fn a_run_is_its_turns() {
     bench.writes(&[(SP_RDLEN, 0x0180_2017)]);
     bench.writes(&[(SP_SPADDR, 0x0FF0), (SP_RAMADDR, 0x0100)]);
     bench.writes(&[(SP_WRLEN, 0x0080_101F)]);
-    assert_eq!((bench.state.sp.full, bench.state.sp.waitstoring), (1, 1));
+    assert_eq!(
+        (bench.state.sp.full, bench.state.sp.waiting_storing),
+        (1, 1)
+    );
     for budget in [0, 1, 8, 9, 16, 17, 18, u32::MAX] {
         let mut turned = bench.clone();
         let moved = budget.min(9 + 8);
@@ -418,7 +421,7 @@ fn refusals_come_in_the_order_of_the_table() {
         bench.rdram = vec![0x11; if is(0) { 65 } else { 64 }];
         bench.dmem = vec![0x22; if is(1) { 4_095 } else { BANK }];
         bench.imem = vec![0x33; if is(2) { 4_097 } else { BANK }];
-        bench.state.dp.wordsleft = if is(3) { 22 } else { 0 };
+        bench.state.dp.words_left = if is(3) { 22 } else { 0 };
         let first = |bits: &[u32]| bits.iter().copied().find(|bit| is(*bit));
         let all = first(&[0, 1, 2, 3]).map_or(0, |bit| bit + 1);
         let without_imem = first(&[0, 1, 3]).map_or(0, |bit| bit + 1);
@@ -514,7 +517,7 @@ fn both_bytes_of_a_flag_are_sound() {
     for (name, field) in FLAGS {
         for byte in [0, 1] {
             let mut state = running();
-            state.dp.startpending = 1;
+            state.dp.start_pending = 1;
             if name == "flush" {
                 state.dp.limit = state.dp.current;
             }
@@ -574,11 +577,11 @@ fn full_implies_busy_and_busy_implies_len_at_most_row() {
     assert!(is_sound(&state));
     state.sp.len = 0x10;
     expect_unsound(&state, "len above row");
-    state.sp.row = 0x08;
+    state.sp.row_len = 0x08;
     expect_unsound(&state, "len above row");
-    state.sp.row = 0x10;
+    state.sp.row_len = 0x10;
     assert!(is_sound(&state));
-    state.sp.row = 0x18;
+    state.sp.row_len = 0x18;
     assert!(is_sound(&state));
     state.sp = SpState {
         len: 0xFF8,
@@ -592,9 +595,9 @@ fn end_pending_implies_start_pending_and_a_list_that_runs_or_freeze() {
     let mut state = power_up();
     state.dp.current = 0x100;
     state.dp.limit = 0x108;
-    state.dp.endpending = 1;
+    state.dp.end_pending = 1;
     expect_unsound(&state, "end pending without start pending");
-    state.dp.startpending = 1;
+    state.dp.start_pending = 1;
     assert!(is_sound(&state));
     for limit in [0x100, 0x0F8] {
         state.dp.limit = limit;
@@ -619,13 +622,13 @@ fn flush_implies_that_nothing_runs() {
 
 #[test]
 fn command_words_left_are_0_to_21() {
-    for wordsleft in 0..=255 {
+    for words_left in 0..=255 {
         let mut state = power_up();
-        state.dp.wordsleft = wordsleft;
-        assert_eq!(is_sound(&state), wordsleft <= 21, "{wordsleft}");
+        state.dp.words_left = words_left;
+        assert_eq!(is_sound(&state), words_left <= 21, "{words_left}");
     }
     let mut state = power_up();
-    state.dp.wordsleft = 22;
+    state.dp.words_left = 22;
     expect_unsound(&state, "words left");
 }
 
@@ -638,9 +641,9 @@ fn at_most_32_words_are_queued() {
             let mut state = power_up();
             state.queue = vec![word; queued];
             assert_eq!(is_sound(&state), queued <= 32, "{queued}");
-            for (wordsleft, flush, pipebusy) in [(21, 0, 0), (0, 1, 1), (3, 1, 0)] {
-                state.dp.wordsleft = wordsleft;
-                (state.dp.flush, state.dp.pipebusy) = (flush, pipebusy);
+            for (words_left, flush, pipe_busy) in [(21, 0, 0), (0, 1, 1), (3, 1, 0)] {
+                state.dp.words_left = words_left;
+                (state.dp.flush, state.dp.pipe_busy) = (flush, pipe_busy);
                 assert_eq!(is_sound(&state), queued <= 32, "{queued}");
             }
         }
@@ -738,7 +741,7 @@ fn the_look_is_empty_in_each_case() {
         empty(|bench| bench.rdram = vec![0; 16_777_224]);
         empty(|bench| bench.dmem.truncate(4_088));
         empty(|bench| bench.dmem.push(0));
-        empty(|bench| bench.state.sp.spaddr = 4);
+        empty(|bench| bench.state.sp.sp_addr = 4);
         empty(|bench| bench.state.dp.end = 0x0100_0000);
     }
 }

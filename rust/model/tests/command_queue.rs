@@ -73,7 +73,7 @@ fn a_fetch_queues_the_word_and_frames_nothing() {
         // The value is 0 though the word is not.
         assert_eq!(bench.dp_turn(), success(0, 1));
         after.dp.current = 0x2008 + 8 * i as u32;
-        after.dp.pipebusy = 1;
+        after.dp.pipe_busy = 1;
         after.queue.push(word);
         assert_eq!(bench.state, after);
     }
@@ -111,8 +111,8 @@ fn an_empty_queue_gives_no_word() {
     for change in [
         |_: &mut Bench| {},
         |bench: &mut Bench| bench.state = begun_with(3).state,
-        |bench: &mut Bench| bench.state.dp.wordsleft = 21,
-        |bench: &mut Bench| (bench.state.dp.flush, bench.state.dp.pipebusy) = (1, 1),
+        |bench: &mut Bench| bench.state.dp.words_left = 21,
+        |bench: &mut Bench| (bench.state.dp.flush, bench.state.dp.pipe_busy) = (1, 1),
     ] {
         let mut bench = Bench::new();
         change(&mut bench);
@@ -126,22 +126,22 @@ fn an_empty_queue_gives_no_word() {
 #[test]
 fn a_consumer_turn_takes_the_oldest_word() {
     let mut state = full_state();
-    state.dp.wordsleft = 0;
+    state.dp.words_left = 0;
     let mut after = state.clone();
     after.queue = vec![0x0F00_0000_0000_0003, u64::MAX];
-    after.dp.pipebusy = 0;
+    after.dp.pipe_busy = 0;
     let outcome = consumer_turn(&state);
     assert_eq!(outcome.answer, success(SYNC_FULL | 2, 1));
     assert_eq!(outcome.state, after);
 
     after.queue = vec![u64::MAX];
-    after.dp.wordsleft = 21;
+    after.dp.words_left = 21;
     let outcome = consumer_turn(&outcome.state);
     assert_eq!(outcome.answer, success(0x0F00_0000_0000_0003, 1));
     assert_eq!(outcome.state, after);
 
     after.queue.clear();
-    after.dp.wordsleft = 20;
+    after.dp.words_left = 20;
     let outcome = consumer_turn(&outcome.state);
     assert_eq!(outcome.answer, success(u64::MAX, 1));
     assert_eq!(outcome.state, after);
@@ -166,11 +166,11 @@ fn framing_waits_for_the_consumer() {
     words[0] = 0x0F << 56;
     let mut bench = begun(&words);
     bench.fetches(23);
-    assert_eq!(bench.state.dp.wordsleft, 0);
+    assert_eq!(bench.state.dp.words_left, 0);
     for (i, word) in words[..22].iter().enumerate() {
         bench.reads(&[(DP_STATUS, 0xE8)]);
         consumes(&mut bench, &[*word]);
-        assert_eq!(usize::from(bench.state.dp.wordsleft), 21 - i);
+        assert_eq!(usize::from(bench.state.dp.words_left), 21 - i);
     }
     bench.lines(0, 0);
     consumes(&mut bench, &[SYNC_FULL]);
@@ -180,7 +180,7 @@ fn framing_waits_for_the_consumer() {
     // In mid command with nothing queued, bit 6 is off.
     let mut bench = begun(&[RECTANGLE]);
     assert_eq!(bench.fetch_and_consume(), success(RECTANGLE, 1));
-    assert_eq!(bench.state.dp.wordsleft, 1);
+    assert_eq!(bench.state.dp.words_left, 1);
     bench.reads(&[(DP_STATUS, 0xA8)]);
 }
 
@@ -580,7 +580,7 @@ fn a_declined_turn_leaves_the_queue() {
     let mut bench = begun_with(4);
     bench.fetches(2);
     let mut unsound = bench.state.clone();
-    unsound.dp.wordsleft = 22;
+    unsound.dp.words_left = 22;
     assert_eq!(consumer_turn(&unsound), declined(&unsound, 4));
     let short = &bench.dmem[..4_095];
     let outcome = dp_turn(&bench.state, &bench.rdram, short);

@@ -296,10 +296,13 @@ fn the_order_decides_about_the_state_too() {
     bench.dmem[8] = 0xE9;
     let mut sp_first = bench.clone();
     assert_eq!(bench.run(MOST, &mut [0; 8]), (success(0, 2), 1));
-    assert_eq!((bench.state.dp.line, bench.state.dp.pipebusy), (0, 1));
+    assert_eq!((bench.state.dp.line, bench.state.dp.pipe_busy), (0, 1));
     assert_eq!(sp_first.run_sp(u32::MAX), success(0, 2));
     assert_eq!(sp_first.run_dp(u32::MAX, &mut [0; 8]), 1);
-    assert_eq!((sp_first.state.dp.line, sp_first.state.dp.pipebusy), (1, 0));
+    assert_eq!(
+        (sp_first.state.dp.line, sp_first.state.dp.pipe_busy),
+        (1, 0)
+    );
     assert!(sp_first.rdram == bench.rdram);
 }
 
@@ -382,8 +385,8 @@ fn any_bench(random: &mut Random) -> Bench {
         dp.limit = dp.current + 8 * (1 + random.number() % 40);
         (dp.freeze, dp.flush) = (0, 0);
         let near = dp.current + 8 * (random.number() % 8);
-        (sp.ramaddr, sp.spaddr) = (near, near & 0xFF8);
-        (sp.busy, sp.len) = (1, sp.row);
+        (sp.ram_addr, sp.sp_addr) = (near, near & 0xFF8);
+        (sp.busy, sp.len) = (1, sp.row_len);
     }
     bench
 }

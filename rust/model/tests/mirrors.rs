@@ -324,11 +324,11 @@ fn a_state_that_is_not_sound_gives_4_through_every_copy() {
             *field(&mut state) = past;
             expect_4_everywhere(&state);
         } else {
-            assert_eq!(name, "waiting");
+            assert_eq!(name, "waiting_word");
         }
     }
     let mut state = full_state();
-    state.dp.wordsleft = 22;
+    state.dp.words_left = 22;
     expect_4_everywhere(&state);
     // A replay on such a state is refused before it looks at an address.
     let mut bench = Bench::running();
@@ -532,9 +532,9 @@ fn a_replay_prints_the_address_as_recorded() {
     after.dp.end = 0x2010;
     after.dp.limit = 0x2010;
     after.dp.current = 0x2008;
-    after.dp.pipebusy = 1;
+    after.dp.pipe_busy = 1;
     after.dp.clock = 9;
-    after.dp.pipecount = 9;
+    after.dp.pipe_busy_count = 9;
     assert_eq!(state, after);
 }
 

@@ -10,9 +10,9 @@ use model::machine::{DP_CLOCK, DP_CURRENT, DP_END, DP_PIPE_BUSY, DP_START, DP_ST
 
 /// Power-up but for PIPE_BUSY, over words from 0x2000 on that begin with these
 /// bytes.
-fn with_words(pipebusy: u8, first_bytes: &[u8]) -> Bench {
+fn with_words(pipe_busy: u8, first_bytes: &[u8]) -> Bench {
     let mut bench = Bench::new();
-    bench.state.dp.pipebusy = pipebusy;
+    bench.state.dp.pipe_busy = pipe_busy;
     for (i, byte) in first_bytes.iter().enumerate() {
         bench.rdram[0x2000 + 8 * i] = *byte;
     }
@@ -20,8 +20,8 @@ fn with_words(pipebusy: u8, first_bytes: &[u8]) -> Bench {
 }
 
 /// The same, with a list begun over these words.
-fn begun(pipebusy: u8, first_bytes: &[u8]) -> Bench {
-    let mut bench = with_words(pipebusy, first_bytes);
+fn begun(pipe_busy: u8, first_bytes: &[u8]) -> Bench {
+    let mut bench = with_words(pipe_busy, first_bytes);
     let end = 0x2000 + 8 * first_bytes.len() as u32;
     bench.writes(&[(DP_START, 0x2000), (DP_END, end)]);
     bench
@@ -29,52 +29,52 @@ fn begun(pipebusy: u8, first_bytes: &[u8]) -> Bench {
 
 /// PIPE_BUSY is this, in the state and in bits 3 and 5 of STATUS. The other
 /// bits of STATUS are those of `others`.
-fn expect_status(bench: &mut Bench, others: u32, pipebusy: u8) {
-    assert_eq!(bench.state.dp.pipebusy, pipebusy);
-    let both_bits = if pipebusy == 1 { 0x28 } else { 0 };
+fn expect_status(bench: &mut Bench, others: u32, pipe_busy: u8) {
+    assert_eq!(bench.state.dp.pipe_busy, pipe_busy);
+    let both_bits = if pipe_busy == 1 { 0x28 } else { 0 };
     bench.reads(&[(DP_STATUS, others | both_bits)]);
 }
 
 /// A fetch, which turns it on, then a consumer turn of the same word, and what
 /// that leaves. Nothing is queued before and after them.
-fn takes(bench: &mut Bench, others: u32, pipebusy: u8) {
+fn takes(bench: &mut Bench, others: u32, pipe_busy: u8) {
     bench.fetches(1);
-    assert_eq!((bench.state.queue.len(), bench.state.dp.pipebusy), (1, 1));
+    assert_eq!((bench.state.queue.len(), bench.state.dp.pipe_busy), (1, 1));
     assert_eq!(bench.consumer_turn().count, 1);
-    expect_status(bench, others, pipebusy);
+    expect_status(bench, others, pipe_busy);
 }
 
 /// The whole rule: what a word that is consumed leaves of PIPE_BUSY.
-fn after_word(pipebusy: u8, wordsleft: u8, first_byte: u8) -> u8 {
-    let sync_full = wordsleft == 0 && first_byte % 64 == 0x29;
+fn after_word(pipe_busy: u8, words_left: u8, first_byte: u8) -> u8 {
+    let sync_full = words_left == 0 && first_byte % 64 == 0x29;
     if sync_full {
         0
     } else {
-        pipebusy
+        pipe_busy
     }
 }
 
 #[test]
 fn an_empty_list_leaves_it_as_it_was() {
-    for pipebusy in [0, 1] {
+    for pipe_busy in [0, 1] {
         for end in [0x2000, 0x1FF8, 0] {
-            let mut bench = with_words(pipebusy, &[]);
+            let mut bench = with_words(pipe_busy, &[]);
             bench.writes(&[(DP_START, 0x2000), (DP_END, end)]);
-            expect_status(&mut bench, 0x80, pipebusy);
+            expect_status(&mut bench, 0x80, pipe_busy);
             assert_eq!(bench.fetch_and_consume(), success(0, 0));
-            expect_status(&mut bench, 0x80, pipebusy);
+            expect_status(&mut bench, 0x80, pipe_busy);
         }
     }
 }
 
 #[test]
 fn an_end_write_that_starts_a_list_leaves_it_as_it_was() {
-    for pipebusy in [0, 1] {
-        let mut bench = with_words(pipebusy, &[]);
+    for pipe_busy in [0, 1] {
+        let mut bench = with_words(pipe_busy, &[]);
         bench.writes(&[(DP_START, 0x2000)]);
-        expect_status(&mut bench, 0x480, pipebusy);
+        expect_status(&mut bench, 0x480, pipe_busy);
         bench.writes(&[(DP_END, 0x2010)]);
-        expect_status(&mut bench, 0x180, pipebusy);
+        expect_status(&mut bench, 0x180, pipe_busy);
         takes(&mut bench, 0x180, 1);
         takes(&mut bench, 0x80, 1);
     }
@@ -82,13 +82,13 @@ fn an_end_write_that_starts_a_list_leaves_it_as_it_was() {
 
 #[test]
 fn a_status_write_that_starts_the_waiting_list_leaves_it_as_it_was() {
-    for pipebusy in [0, 1] {
+    for pipe_busy in [0, 1] {
         for (end, started) in [(0x2008, 0x180), (0x2000, 0x80), (0x1000, 0x80)] {
-            let mut bench = with_words(pipebusy, &[]);
+            let mut bench = with_words(pipe_busy, &[]);
             bench.writes(&[(DP_STATUS, 8), (DP_START, 0x2000), (DP_END, end)]);
-            expect_status(&mut bench, 0x682, pipebusy);
+            expect_status(&mut bench, 0x682, pipe_busy);
             bench.writes(&[(DP_STATUS, 4)]);
-            expect_status(&mut bench, started, pipebusy);
+            expect_status(&mut bench, started, pipe_busy);
             bench.reads(&[(DP_CURRENT, 0x2000)]);
         }
     }
@@ -98,12 +98,12 @@ fn a_status_write_that_starts_the_waiting_list_leaves_it_as_it_was() {
 /// word alone decides when it is consumed.
 #[test]
 fn a_turn_that_starts_the_waiting_list_goes_by_its_word() {
-    for pipebusy in [0, 1] {
+    for pipe_busy in [0, 1] {
         for (end, started) in [(0x3008, 0x180), (0x3000, 0x80), (0x1000, 0x80)] {
             for (byte, after) in [(0x00, 1), (0x27, 1), (0x29, 0), (0xE9, 0)] {
-                let mut bench = begun(pipebusy, &[byte]);
+                let mut bench = begun(pipe_busy, &[byte]);
                 bench.writes(&[(DP_START, 0x3000), (DP_END, end)]);
-                expect_status(&mut bench, 0x780, pipebusy);
+                expect_status(&mut bench, 0x780, pipe_busy);
                 takes(&mut bench, started, after);
                 bench.reads(&[(DP_CURRENT, 0x3000)]);
                 bench.lines(0, 1 - after);
@@ -114,8 +114,8 @@ fn a_turn_that_starts_the_waiting_list_goes_by_its_word() {
 
 #[test]
 fn moving_end_leaves_it_as_it_was() {
-    for pipebusy in [0, 1] {
-        let mut bench = with_words(pipebusy, &[]);
+    for pipe_busy in [0, 1] {
+        let mut bench = with_words(pipe_busy, &[]);
         bench.writes(&[(DP_START, 0x2000), (DP_END, 0x2000)]);
         // Onto a list, further, back, to CURRENT, below it and on again.
         let ends = [
@@ -128,11 +128,11 @@ fn moving_end_leaves_it_as_it_was() {
         ];
         for (end, others) in ends {
             bench.writes(&[(DP_END, end)]);
-            expect_status(&mut bench, others, pipebusy);
+            expect_status(&mut bench, others, pipe_busy);
             bench.writes(&[(DP_STATUS, 8), (DP_END, end)]);
-            expect_status(&mut bench, others | 2, pipebusy);
+            expect_status(&mut bench, others | 2, pipe_busy);
             bench.writes(&[(DP_STATUS, 4)]);
-            expect_status(&mut bench, others, pipebusy);
+            expect_status(&mut bench, others, pipe_busy);
         }
         takes(&mut bench, 0x180, 1);
         bench.writes(&[(DP_END, 0x2008)]);
@@ -154,16 +154,16 @@ fn each_word_of_a_command_sets_it() {
         (0x0F, 22),
     ];
     for (opcode, length) in lengths {
-        for pipebusy in [0, 1] {
+        for pipe_busy in [0, 1] {
             let mut bytes = vec![0xE9; length];
             bytes[0] = opcode;
             let mut bench = begun(0, &bytes);
             for left in (0..length).rev() {
                 // It may be off within a command too: such a state is sound.
-                bench.state.dp.pipebusy = pipebusy;
+                bench.state.dp.pipe_busy = pipe_busy;
                 let others = if left > 0 { 0x180 } else { 0x80 };
                 takes(&mut bench, others, 1);
-                assert_eq!(usize::from(bench.state.dp.wordsleft), left);
+                assert_eq!(usize::from(bench.state.dp.words_left), left);
             }
             bench.lines(0, 0);
         }
@@ -171,8 +171,8 @@ fn each_word_of_a_command_sets_it() {
 }
 
 /// What a consumed word leaves of the command words left.
-fn left_after_word(wordsleft: u8, first_byte: u8) -> u8 {
-    match (wordsleft, first_byte % 64) {
+fn left_after_word(words_left: u8, first_byte: u8) -> u8 {
+    match (words_left, first_byte % 64) {
         (0, 0x08) => 3,
         (0, 0x09) => 5,
         (0, 0x0A | 0x0C) => 11,
@@ -180,7 +180,7 @@ fn left_after_word(wordsleft: u8, first_byte: u8) -> u8 {
         (0, 0x0E) => 19,
         (0, 0x0F) => 21,
         (0, 0x24 | 0x25) => 1,
-        _ => wordsleft.saturating_sub(1),
+        _ => words_left.saturating_sub(1),
     }
 }
 
@@ -190,30 +190,30 @@ fn left_after_word(wordsleft: u8, first_byte: u8) -> u8 {
 #[test]
 fn every_first_byte_leaves_it_but_for_a_sync_full() {
     let mut bench = Bench::new();
-    for (wordsleft, byte) in (0..=21).flat_map(|left| (0..=255).map(move |byte| (left, byte))) {
-        for pipebusy in [0, 1] {
+    for (words_left, byte) in (0..=21).flat_map(|left| (0..=255).map(move |byte| (left, byte))) {
+        for pipe_busy in [0, 1] {
             bench.rdram[0x2000] = byte;
             bench.state = power_up();
             bench.state.dp.current = 0x2000;
             bench.state.dp.limit = 0x2010;
-            bench.state.dp.wordsleft = wordsleft;
-            bench.state.dp.pipebusy = pipebusy;
+            bench.state.dp.words_left = words_left;
+            bench.state.dp.pipe_busy = pipe_busy;
             let mut after = bench.state.clone();
             let word = u64::from(byte) << 56;
             bench.fetches(1);
             after.dp.current = 0x2008;
-            after.dp.pipebusy = 1;
+            after.dp.pipe_busy = 1;
             after.queue = vec![word];
-            assert_eq!(bench.state, after, "{wordsleft} {byte:02X} {pipebusy}");
+            assert_eq!(bench.state, after, "{words_left} {byte:02X} {pipe_busy}");
 
             // A state with words queued and PIPE_BUSY off is sound, too.
-            bench.state.dp.pipebusy = pipebusy;
+            bench.state.dp.pipe_busy = pipe_busy;
             assert_eq!(bench.consumer_turn(), success(word, 1));
             after.queue.clear();
-            after.dp.pipebusy = after_word(pipebusy, wordsleft, byte);
-            after.dp.line = u8::from(wordsleft == 0 && byte % 64 == 0x29);
-            after.dp.wordsleft = left_after_word(wordsleft, byte);
-            assert_eq!(bench.state, after, "{wordsleft} {byte:02X} {pipebusy}");
+            after.dp.pipe_busy = after_word(pipe_busy, words_left, byte);
+            after.dp.line = u8::from(words_left == 0 && byte % 64 == 0x29);
+            after.dp.words_left = left_after_word(words_left, byte);
+            assert_eq!(bench.state, after, "{words_left} {byte:02X} {pipe_busy}");
         }
     }
 }
@@ -222,9 +222,9 @@ fn every_first_byte_leaves_it_but_for_a_sync_full() {
 /// that is only the second word of a command; and more of it by END alone.
 #[test]
 fn a_word_after_sync_full_sets_it_again() {
-    for pipebusy in [0, 1] {
+    for pipe_busy in [0, 1] {
         let bytes = [0x27, 0x29, 0x27, 0xE9, 0x29, 0x24];
-        let mut bench = begun(pipebusy, &bytes);
+        let mut bench = begun(pipe_busy, &bytes);
         bench.rdram[0x2030] = 0x29;
         bench.rdram[0x2038] = 0x69;
         for after in [1, 0, 1, 0, 0] {
@@ -244,10 +244,10 @@ fn a_word_after_sync_full_sets_it_again() {
 /// A list waits all the while, and does not start with the SYNC_FULL's turn.
 #[test]
 fn sync_full_clears_it_though_a_list_waits() {
-    for pipebusy in [0, 1] {
-        let mut bench = begun(pipebusy, &[0x29, 0x27, 0xA9, 0x00]);
+    for pipe_busy in [0, 1] {
+        let mut bench = begun(pipe_busy, &[0x29, 0x27, 0xA9, 0x00]);
         bench.writes(&[(DP_START, 0x3000), (DP_END, 0x3008)]);
-        expect_status(&mut bench, 0x780, pipebusy);
+        expect_status(&mut bench, 0x780, pipe_busy);
         for after in [0, 1, 0] {
             takes(&mut bench, 0x780, after);
         }
@@ -276,8 +276,8 @@ fn words_from_dmem_and_past_the_lent_length_set_it() {
     bench.writes(&[(DP_STATUS, 1), (DP_START, 0xFFF8), (DP_END, 0x1_0010)]);
     takes(&mut bench, 0x180, 0);
     takes(&mut bench, 0x180, 1);
-    bench.state.dp.pipebusy = 0;
-    bench.state.dp.wordsleft = 2;
+    bench.state.dp.pipe_busy = 0;
+    bench.state.dp.words_left = 2;
     takes(&mut bench, 0x80, 1);
 }
 
@@ -291,13 +291,13 @@ fn a_turn_that_fetches_nothing_leaves_it_as_it_was() {
         (0x2010, 1, 0),
     ];
     for (limit, freeze, flush) in stopped {
-        for (pipebusy, wordsleft, byte) in [(0, 0, 0x27), (1, 0, 0x29), (0, 5, 0), (1, 5, 0)] {
-            let mut bench = with_words(pipebusy, &[byte, byte]);
+        for (pipe_busy, words_left, byte) in [(0, 0, 0x27), (1, 0, 0x29), (0, 5, 0), (1, 5, 0)] {
+            let mut bench = with_words(pipe_busy, &[byte, byte]);
             bench.state.dp.current = 0x2000;
             bench.state.dp.limit = limit;
             bench.state.dp.freeze = freeze;
             bench.state.dp.flush = flush;
-            bench.state.dp.wordsleft = wordsleft;
+            bench.state.dp.words_left = words_left;
             let before = bench.clone();
             assert_eq!(bench.dp_turn(), success(0, 0));
             assert_eq!(bench.consumer_turn(), success(0, 0));
@@ -314,18 +314,18 @@ fn a_turn_that_fetches_nothing_leaves_it_as_it_was() {
 #[test]
 fn a_run_leaves_what_its_last_turn_left() {
     let bytes = [0x27, 0x29, 0x27, 0x24, 0x29, 0xE9];
-    for pipebusy in [0, 1] {
-        let after = [pipebusy, 1, 0, 1, 1, 1, 0];
+    for pipe_busy in [0, 1] {
+        let after = [pipe_busy, 1, 0, 1, 1, 1, 0];
         for (words, after) in after.into_iter().enumerate() {
             let count = words as u32;
-            let mut bench = begun(pipebusy, &bytes);
+            let mut bench = begun(pipe_busy, &bytes);
             let mut cramped = bench.clone();
             assert_eq!(bench.run_dp(count, &mut [0; 64]), count);
-            assert_eq!(bench.state.dp.pipebusy, after, "{words}");
+            assert_eq!(bench.state.dp.pipe_busy, after, "{words}");
             let mut room = vec![0; 8 * words + 7];
             assert_eq!(cramped.run_dp(u32::MAX, &mut room), count);
             let after = u8::from(words < 6);
-            assert_eq!(cramped.state.dp.pipebusy, after, "{words}");
+            assert_eq!(cramped.state.dp.pipe_busy, after, "{words}");
         }
     }
 }
@@ -333,22 +333,22 @@ fn a_run_leaves_what_its_last_turn_left() {
 /// Within a command or not, with a list running, waiting or neither.
 #[test]
 fn flush_leaves_it_as_it_was() {
-    for pipebusy in [0, 1] {
-        for (limit, wordsleft) in [(0x2010, 0), (0x2010, 3), (0x2000, 0), (0x2000, 3)] {
-            let mut bench = with_words(pipebusy, &[]);
+    for pipe_busy in [0, 1] {
+        for (limit, words_left) in [(0x2010, 0), (0x2010, 3), (0x2000, 0), (0x2000, 3)] {
+            let mut bench = with_words(pipe_busy, &[]);
             bench.state.dp.current = 0x2000;
             bench.state.dp.limit = limit;
-            bench.state.dp.wordsleft = wordsleft;
+            bench.state.dp.words_left = words_left;
             bench.writes(&[(DP_STATUS, 8), (DP_START, 0x4000), (DP_END, 0x4008)]);
             bench.writes(&[(DP_STATUS, 0x24)]);
-            expect_status(&mut bench, 0x84, pipebusy);
+            expect_status(&mut bench, 0x84, pipe_busy);
             // Under FLUSH, a list and an END alone leave nothing running.
             bench.writes(&[(DP_START, 0x3000), (DP_END, 0x3010)]);
-            expect_status(&mut bench, 0x84, pipebusy);
+            expect_status(&mut bench, 0x84, pipe_busy);
             bench.writes(&[(DP_END, 0x3020)]);
-            expect_status(&mut bench, 0x84, pipebusy);
+            expect_status(&mut bench, 0x84, pipe_busy);
             bench.writes(&[(DP_STATUS, 0x10)]);
-            expect_status(&mut bench, 0x80, pipebusy);
+            expect_status(&mut bench, 0x80, pipe_busy);
         }
     }
 }
@@ -358,16 +358,16 @@ fn flush_leaves_it_as_it_was() {
 #[test]
 fn a_status_write_leaves_it_as_it_was() {
     for value in 0..0x400 {
-        for (pipebusy, freeze) in [(0, 0), (0, 1), (1, 0), (1, 1)] {
-            for (limit, endpending) in [(0x98, 0), (0x90, 0), (0xA0, 1), (0x90, freeze)] {
+        for (pipe_busy, freeze) in [(0, 0), (0, 1), (1, 0), (1, 1)] {
+            for (limit, end_pending) in [(0x98, 0), (0x90, 0), (0xA0, 1), (0x90, freeze)] {
                 let mut state = full_state();
                 state.dp.limit = limit;
-                state.dp.endpending = endpending;
+                state.dp.end_pending = end_pending;
                 state.dp.freeze = freeze;
-                state.dp.pipebusy = pipebusy;
+                state.dp.pipe_busy = pipe_busy;
                 let outcome = write_register(&state, DP_STATUS, value);
                 assert_eq!(outcome.answer, success(0, 0));
-                assert_eq!(outcome.state.dp.pipebusy, pipebusy, "{value:03X}");
+                assert_eq!(outcome.state.dp.pipe_busy, pipe_busy, "{value:03X}");
             }
         }
     }
@@ -382,7 +382,7 @@ fn an_acknowledge_leaves_it_as_it_was() {
         let outcome = acknowledge(&bench.state);
         assert_eq!(outcome.answer, success(0, 0));
         let dp = outcome.state.dp;
-        assert_eq!((dp.line, dp.pipebusy), (0, after));
+        assert_eq!((dp.line, dp.pipe_busy), (0, after));
     }
 }
 
@@ -454,18 +454,18 @@ fn a_recording_shows_it() {
         D 00000001\nR 0410000C 000001A8 ok\nD 00000001\nR 0410000C 00000080 ok\n\
         R 04100018 00000003 ok\nend 12\n";
     assert_eq!(listing, expected);
-    assert_eq!((state.dp.pipebusy, state.dp.line), (0, 1));
+    assert_eq!((state.dp.pipe_busy, state.dp.line), (0, 1));
 }
 
 /// Words left above 0 with PIPE_BUSY off is sound: words set it, and no clause
 /// joins the two.
 #[test]
 fn it_may_be_off_within_a_command() {
-    for wordsleft in 0..=21 {
-        for pipebusy in [0, 1] {
+    for words_left in 0..=21 {
+        for pipe_busy in [0, 1] {
             let mut state = power_up();
-            state.dp.wordsleft = wordsleft;
-            state.dp.pipebusy = pipebusy;
+            state.dp.words_left = words_left;
+            state.dp.pipe_busy = pipe_busy;
             assert!(is_sound(&state));
             assert_eq!(tick(&state, 0).state, state);
         }
@@ -475,9 +475,9 @@ fn it_may_be_off_within_a_command() {
 /// A declined turn or run gives the flag back as it was, like all else.
 #[test]
 fn a_declined_turn_leaves_it_as_it_was() {
-    for pipebusy in [0, 1] {
+    for pipe_busy in [0, 1] {
         let mut bench = Bench::running();
-        bench.state.dp.pipebusy = pipebusy;
+        bench.state.dp.pipe_busy = pipe_busy;
         bench.dmem.pop();
         expect_numbers(&bench, 2, 2);
         bench.rdram.pop();
@@ -493,7 +493,7 @@ fn only_a_fetch_and_a_consumed_sync_full_change_it() {
     for _ in 0..4_000 {
         let mut state = random.sound_state();
         let value = random.number();
-        state.dp.wordsleft *= value as u8 & 1;
+        state.dp.words_left *= value as u8 & 1;
         let mut outcomes = vec![tick(&state, value), sp_break(&state), acknowledge(&state)];
         for address in REGISTERS {
             outcomes.push(read_register(&state, address));
@@ -502,28 +502,28 @@ fn only_a_fetch_and_a_consumed_sync_full_change_it() {
         outcomes.push(write_registers(&state, &REGISTERS, &[value; 16]));
         for outcome in outcomes {
             assert_eq!(outcome.answer.number, 0);
-            assert_eq!(outcome.state.dp.pipebusy, state.dp.pipebusy);
+            assert_eq!(outcome.state.dp.pipe_busy, state.dp.pipe_busy);
         }
-        let pipebusy = state.dp.pipebusy;
+        let pipe_busy = state.dp.pipe_busy;
         bench.state = state.clone();
         assert_eq!(bench.run_sp(value % 64).number, 0);
-        assert_eq!(bench.state.dp.pipebusy, pipebusy);
+        assert_eq!(bench.state.dp.pipe_busy, pipe_busy);
 
         bench.state = state.clone();
         plant(&mut bench, value);
         let fetched = bench.dp_turn().count == 1;
-        let expected = if fetched { 1 } else { pipebusy };
-        assert_eq!(bench.state.dp.pipebusy, expected);
+        let expected = if fetched { 1 } else { pipe_busy };
+        assert_eq!(bench.state.dp.pipe_busy, expected);
 
         bench.state = state;
         plant(&mut bench, value);
-        let wordsleft = bench.state.dp.wordsleft;
+        let words_left = bench.state.dp.words_left;
         let turn = bench.consumer_turn();
         let expected = match turn.count {
-            1 => after_word(pipebusy, wordsleft, (turn.value >> 56) as u8),
-            _ => pipebusy,
+            1 => after_word(pipe_busy, words_left, (turn.value >> 56) as u8),
+            _ => pipe_busy,
         };
-        assert_eq!(bench.state.dp.pipebusy, expected);
+        assert_eq!(bench.state.dp.pipe_busy, expected);
     }
 }
 

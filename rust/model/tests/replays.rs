@@ -212,7 +212,7 @@ fn the_whole_case_replays() {
     let mut bench = Bench::new();
     let (state, listing) = bench.replay_to_end(&WHOLE_CASE, 4);
     assert_eq!(listing, WHOLE_LISTING);
-    assert_eq!(state.sp.spaddr, 0x1008);
+    assert_eq!(state.sp.sp_addr, 0x1008);
     assert_eq!(bench.replay_to_end(&[], 0).1, "replay 1\nend 0\n");
 }
 

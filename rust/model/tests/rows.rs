@@ -225,10 +225,10 @@ fn a_waiting_transfer_of_the_other_direction() {
     let before = bench.clone();
     row(&mut bench, 2, 0x98, 0x50, 0x0080_0008);
     bench.reads(&[(SP_DMA_FULL, 1), (SP_DMA_BUSY, 1)]);
-    assert_eq!((bench.state.sp.storing, bench.state.sp.row), (0, 8));
+    assert_eq!((bench.state.sp.storing, bench.state.sp.row_len), (0, 8));
     row(&mut bench, 2, 0x20, 0x1010, 0x0180_2010);
     bench.reads(&[(SP_DMA_FULL, 0), (SP_DMA_BUSY, 1)]);
-    assert_eq!((bench.state.sp.storing, bench.state.sp.row), (1, 0x10));
+    assert_eq!((bench.state.sp.storing, bench.state.sp.row_len), (1, 0x10));
     assert_eq!(bench.dmem[0x40..0x50], before.rdram[0x80..0x90]);
     assert_eq!(bench.dmem[0x50..0x60], before.rdram[0x98..0xA8]);
     assert!(bench.rdram == before.rdram && bench.imem == before.imem);
@@ -246,9 +246,12 @@ fn a_waiting_load_behind_the_last_word_of_a_store() {
     let waited = bench.state.sp;
     row(&mut bench, 1, 0x20, 0x1010, 0xFF8F_FFF8);
     let sp = bench.state.sp;
-    assert_eq!((sp.full, sp.storing, sp.row), (0, 0, 0xFF8));
-    assert_eq!((sp.waiting, sp.waitstoring), (0xFFFF_FFFF, 0));
-    assert_eq!((sp.splatch, sp.ramlatch), (waited.splatch, waited.ramlatch));
+    assert_eq!((sp.full, sp.storing, sp.row_len), (0, 0, 0xFF8));
+    assert_eq!((sp.waiting_word, sp.waiting_storing), (0xFFFF_FFFF, 0));
+    assert_eq!(
+        (sp.sp_latch, sp.ram_latch),
+        (waited.sp_latch, waited.ram_latch)
+    );
 }
 
 /// ROW is looked at where the next row begins, and not before.
@@ -271,7 +274,7 @@ fn a_row_leaves_all_else_as_it_was() {
     let mut expected = bench.state.clone();
     let sp = &mut expected.sp;
     // Seven words at SPADDR 0x1018 and RAMADDR 0x20, and then SKIP 0x50.
-    (sp.spaddr, sp.ramaddr) = (0x1050, 0x20 + 0x38 + 0x50);
+    (sp.sp_addr, sp.ram_addr) = (0x1050, 0x20 + 0x38 + 0x50);
     (sp.len, sp.count) = (0x60, 0x3F);
     assert_eq!(bench.sp_row(), success(0, 7));
     assert_eq!(bench.state, expected);

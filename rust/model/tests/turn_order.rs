@@ -77,7 +77,7 @@ type Place = (u8, usize);
 fn yet_to_fetch(bench: &Bench) -> (HashSet<Place>, Vec<u64>) {
     let dp = &bench.state.dp;
     let mut addresses: Vec<u32> = (dp.current..dp.limit).step_by(8).collect();
-    if dp.endpending == 1 {
+    if dp.end_pending == 1 {
         addresses.extend((dp.start..dp.end).step_by(8));
     }
     let (mut places, mut words) = (HashSet::new(), Vec::new());
@@ -101,10 +101,10 @@ fn yet_to_write(bench: &Bench) -> (HashSet<Place>, u32) {
     let mut ahead = bench.clone();
     while ahead.state.sp.busy == 1 {
         let sp = ahead.state.sp;
-        let place = match (sp.storing, sp.spaddr & 0x1000) {
-            (1, _) => (0, sp.ramaddr as usize),
-            (_, 0) => (1, sp.spaddr as usize),
-            _ => (2, sp.spaddr as usize % BANK),
+        let place = match (sp.storing, sp.sp_addr & 0x1000) {
+            (1, _) => (0, sp.ram_addr as usize),
+            (_, 0) => (1, sp.sp_addr as usize),
+            _ => (2, sp.sp_addr as usize % BANK),
         };
         if place.0 != 0 || place.1 < ahead.rdram.len() {
             places.insert(place);
@@ -121,9 +121,9 @@ fn words_left(sp: &SpState) -> u32 {
     if sp.busy == 0 {
         return 0;
     }
-    let waiting = sp.waiting;
+    let waiting = sp.waiting_word;
     let of_waiting = ((waiting >> 12 & 0xFF) + 1) * ((waiting & 0xFF8) / 8 + 1);
-    let running = sp.len / 8 + 1 + sp.count * (sp.row / 8 + 1);
+    let running = sp.len / 8 + 1 + sp.count * (sp.row_len / 8 + 1);
     running + of_waiting * u32::from(sp.full)
 }
 
@@ -148,12 +148,12 @@ fn outset(random: &mut Random) -> Bench {
         dp.start = 0xF800 + (random.number() & 0x7F8);
         dp.end = dp.start + 8 * (random.number() % 40);
         let word = length_word(random);
-        (sp.row, sp.count, sp.skip) = (word & 0xFF8, word >> 12 & 0xFF, word >> 20);
-        sp.len = sp.row / 8 * (random.number() % 2) * 8;
-        sp.waiting = length_word(random);
-        sp.ramaddr = 0xF000 + (random.number() & 0x17F8);
-        sp.ramlatch = 0xF000 + (random.number() & 0xFF8);
-        (sp.spaddr, sp.splatch) = (random.number() & 0x1FF8, random.number() & 0x1FF8);
+        (sp.row_len, sp.count, sp.skip) = (word & 0xFF8, word >> 12 & 0xFF, word >> 20);
+        sp.len = sp.row_len / 8 * (random.number() % 2) * 8;
+        sp.waiting_word = length_word(random);
+        sp.ram_addr = 0xF000 + (random.number() & 0x17F8);
+        sp.ram_latch = 0xF000 + (random.number() & 0xFF8);
+        (sp.sp_addr, sp.sp_latch) = (random.number() & 0x1FF8, random.number() & 0x1FF8);
         if is_sound(&state) {
             bench.state = state;
             return bench;
@@ -198,9 +198,9 @@ fn series_to_the_end(random: &mut Random, bench: &Bench, of_sp: &[Turn]) -> Vec<
 
 /// Does a SYNC_FULL stand before the last of these words, which are framed from
 /// so many words left on?
-fn sync_full_before_the_last(words: &[u64], wordsleft: u8) -> bool {
+fn sync_full_before_the_last(words: &[u64], words_left: u8) -> bool {
     let mut state = power_up();
-    state.dp.wordsleft = wordsleft;
+    state.dp.words_left = words_left;
     let before = words.split_last().map_or(&[][..], |(_, before)| before);
     before.iter().any(|word| {
         state.queue = vec![*word];
@@ -226,9 +226,9 @@ fn expect_same_end(random: &mut Random, bench: &Bench, of_sp: &[Turn]) -> bool {
     });
     let [(mut first, first_answers), (second, second_answers)] = ends;
     assert_eq!(first_answers.sp, second_answers.sp);
-    let differed = first.state.dp.pipebusy != second.state.dp.pipebusy;
-    if sync_full_before_the_last(&words, bench.state.dp.wordsleft) {
-        first.state.dp.pipebusy = second.state.dp.pipebusy;
+    let differed = first.state.dp.pipe_busy != second.state.dp.pipe_busy;
+    if sync_full_before_the_last(&words, bench.state.dp.words_left) {
+        first.state.dp.pipe_busy = second.state.dp.pipe_busy;
     }
     assert_eq!(first.state, second.state);
     assert!(first == second);

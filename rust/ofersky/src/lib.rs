@@ -23,28 +23,28 @@ mod raw;
 #[derive(Clone, Copy, Debug, Default, PartialEq, Eq)]
 pub struct SpState {
     /// What SPADDR and RAMADDR were last written with; the next transfer starts from them.
-    pub splatch: u32,
-    pub ramlatch: u32,
+    pub sp_latch: u32,
+    pub ram_latch: u32,
     /// The running or last transfer. Bit 12 of SPADDR picks IMEM.
-    pub spaddr: u32,
-    pub ramaddr: u32,
+    pub sp_addr: u32,
+    pub ram_addr: u32,
     pub len: u32,
     pub count: u32,
     pub skip: u32,
     /// LEN at the start.
-    pub row: u32,
+    pub row_len: u32,
     /// The length word that waits, or waited last.
-    pub waiting: u32,
+    pub waiting_word: u32,
     pub busy: u8,
     /// The direction of the running or last transfer: 1 stores into RDRAM.
     pub storing: u8,
     pub full: u8,
     /// The direction that waits, or waited last.
-    pub waitstoring: u8,
+    pub waiting_storing: u8,
     pub halted: u8,
     pub broke: u8,
-    pub sstep: u8,
-    pub intbreak: u8,
+    pub single_step: u8,
+    pub interrupt_on_break: u8,
     /// No flag: SIG0 to SIG7 are bits 0 to 7.
     pub signals: u8,
     /// The SP interrupt line.
@@ -64,18 +64,18 @@ pub struct DpState {
     pub limit: u32,
     pub clock: u32,
     /// The CMD_BUSY, PIPE_BUSY and TMEM_BUSY counters.
-    pub cmdcount: u32,
-    pub pipecount: u32,
-    pub tmemcount: u32,
-    pub startpending: u8,
-    pub endpending: u8,
+    pub cmd_busy_count: u32,
+    pub pipe_busy_count: u32,
+    pub tmem_busy_count: u32,
+    pub start_pending: u8,
+    pub end_pending: u8,
     pub xbus: u8,
     pub freeze: u8,
     pub flush: u8,
     /// Every word fetched turns it on; a SYNC_FULL that is consumed turns it off.
-    pub pipebusy: u8,
+    pub pipe_busy: u8,
     /// No flag: the words left of the command that is being consumed.
-    pub wordsleft: u8,
+    pub words_left: u8,
     /// The DP interrupt line.
     pub line: u8,
     /// No flag: how many words are queued, at most [`QUEUE_WORDS`].
@@ -263,7 +263,7 @@ pub fn write_register(state: State, address: u32, value: u32) -> Outcome {
 /// let burst = |addresses: &[u32], values: &[u32]| {
 ///     let done = ofersky::write_registers(ofersky::power_up(), addresses, values);
 ///     let sp = done.state.sp;
-///     (done.answer.number, done.answer.count, sp.ramlatch, sp.busy)
+///     (done.answer.number, done.answer.count, sp.ram_latch, sp.busy)
 /// };
 /// assert_eq!(burst(&[ramaddr, rdlen], &[0x2000, 0x0F]), (0, 2, 0x2000, 1));
 /// // The pair in the middle is refused: RAMADDR is written, and no transfer starts.
@@ -310,7 +310,7 @@ pub fn sp_turn(state: State, rdram: &mut [u8], dmem: &mut [u8], imem: &mut [u8])
 /// let state = ofersky::sp_turn(started, &mut rdram, &mut dmem, &mut imem).state;
 /// let mut row = |state| ofersky::sp_row(state, &mut rdram, &mut dmem, &mut imem);
 /// let first = row(state);
-/// assert_eq!((first.answer.count, first.state.sp.ramaddr), (1, 0x20));
+/// assert_eq!((first.answer.count, first.state.sp.ram_addr), (1, 0x20));
 /// let second = row(first.state);
 /// assert_eq!((second.answer.count, second.state.sp.busy), (2, 0));
 /// assert_eq!(row(second.state).answer.count, 0);
@@ -344,7 +344,7 @@ pub fn dp_turn(state: State, rdram: &[u8], dmem: &[u8]) -> Outcome {
 /// assert_eq!(ofersky::read_register(fetched.state, 0x0410_000C).answer.value, 0xE8);
 /// let consumed = ofersky::consumer_turn(fetched.state);
 /// assert_eq!((consumed.answer.value, consumed.answer.count), (0x2900_0000_0000_0007, 1));
-/// assert_eq!((consumed.state.dp.pipebusy, consumed.state.dp.line), (0, 1));
+/// assert_eq!((consumed.state.dp.pipe_busy, consumed.state.dp.line), (0, 1));
 /// // The queue is empty.
 /// assert_eq!(ofersky::consumer_turn(consumed.state).answer.count, 0);
 /// ```

@@ -11,16 +11,16 @@ pub struct Dp {
     pub current: u32,
     pub limit: u32,
     pub clock: u32,
-    pub cmdcount: u32,
-    pub pipecount: u32,
-    pub tmemcount: u32,
-    pub startpending: bool,
-    pub endpending: bool,
+    pub cmd_busy_count: u32,
+    pub pipe_busy_count: u32,
+    pub tmem_busy_count: u32,
+    pub start_pending: bool,
+    pub end_pending: bool,
     pub xbus: bool,
     pub freeze: bool,
     pub flush: bool,
-    pub pipebusy: bool,
-    pub wordsleft: u8,
+    pub pipe_busy: bool,
+    pub words_left: u8,
     pub line: bool,
     pub queued: u8,
     /// The slot of the oldest queued word.
@@ -54,20 +54,20 @@ impl Dp {
     pub fn start_list(&mut self) {
         self.current = self.start;
         self.limit = if self.flush { self.start } else { self.end };
-        self.startpending = false;
-        self.endpending = false;
+        self.start_pending = false;
+        self.end_pending = false;
     }
 
     /// Counts a word for its command; a SYNC_FULL acts here.
     #[inline]
     fn frame(&mut self, op: u8) {
-        if self.wordsleft > 0 {
-            self.wordsleft -= 1;
+        if self.words_left > 0 {
+            self.words_left -= 1;
             return;
         }
-        self.wordsleft = LENGTHS[op as usize] - 1;
+        self.words_left = LENGTHS[op as usize] - 1;
         if op == SYNC_FULL {
-            self.pipebusy = false;
+            self.pipe_busy = false;
             self.line = true;
         }
     }
@@ -85,9 +85,9 @@ impl Dp {
         };
         ring[(self.head + self.queued) as usize % SLOTS] = u64::from_be_bytes(word);
         self.queued += 1;
-        self.pipebusy = true;
+        self.pipe_busy = true;
         self.current = (self.current + 8) & 0xFF_FFFF;
-        if !self.runs() && self.endpending {
+        if !self.runs() && self.end_pending {
             self.start_list();
         }
         true

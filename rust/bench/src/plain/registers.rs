@@ -23,8 +23,8 @@ impl Sp {
             | (self.broke as u32) << 1
             | (self.busy as u32) << 2
             | (self.full as u32) << 3
-            | (self.sstep as u32) << 5
-            | (self.intbreak as u32) << 6
+            | (self.single_step as u32) << 5
+            | (self.interrupt_on_break as u32) << 6
             | (self.signals as u32) << 7
     }
 
@@ -32,8 +32,8 @@ impl Sp {
         write_pair(&mut self.halted, v, 0);
         self.broke &= !bit(v, 2);
         write_pair(&mut self.line, v, 3);
-        write_pair(&mut self.sstep, v, 5);
-        write_pair(&mut self.intbreak, v, 7);
+        write_pair(&mut self.single_step, v, 5);
+        write_pair(&mut self.interrupt_on_break, v, 7);
         for n in 0..8 {
             let mut signal = self.signals >> n & 1 == 1;
             write_pair(&mut signal, v, 9 + 2 * n);
@@ -43,8 +43,8 @@ impl Sp {
 
     fn read(&mut self, index: u32) -> u32 {
         match index {
-            0 => self.spaddr,
-            1 => self.ramaddr,
+            0 => self.sp_addr,
+            1 => self.ram_addr,
             2 | 3 => self.skip << 20 | self.count << 12 | self.len,
             4 => self.status(),
             5 => self.full as u32,
@@ -55,8 +55,8 @@ impl Sp {
 
     fn write(&mut self, index: u32, v: u32) {
         match index {
-            0 => self.splatch = v & 0x1FF8,
-            1 => self.ramlatch = v & 0xFF_FFF8,
+            0 => self.sp_latch = v & 0x1FF8,
+            1 => self.ram_latch = v & 0xFF_FFF8,
             2 => self.write_length(v, false),
             3 => self.write_length(v, true),
             4 => self.write_status(v),
@@ -71,21 +71,21 @@ impl Dp {
         self.xbus as u32
             | (self.freeze as u32) << 1
             | (self.flush as u32) << 2
-            | (self.pipebusy as u32) << 3
-            | (self.pipebusy as u32) << 5
+            | (self.pipe_busy as u32) << 3
+            | (self.pipe_busy as u32) << 5
             | ((self.queued > 0) as u32) << 6
             | 0x80
             | (self.runs() as u32) << 8
-            | (self.endpending as u32) << 9
-            | (self.startpending as u32) << 10
+            | (self.end_pending as u32) << 9
+            | (self.start_pending as u32) << 10
     }
 
     fn write_end(&mut self, v: u32) {
         self.end = v & 0xFF_FFF8;
-        if !self.startpending {
+        if !self.start_pending {
             self.limit = if self.flush { self.current } else { self.end };
         } else if self.runs() || self.freeze {
-            self.endpending = true;
+            self.end_pending = true;
         } else {
             self.start_list();
         }
@@ -93,9 +93,9 @@ impl Dp {
 
     fn flush_list(&mut self) {
         self.limit = self.current;
-        self.startpending = false;
-        self.endpending = false;
-        self.wordsleft = 0;
+        self.start_pending = false;
+        self.end_pending = false;
+        self.words_left = 0;
         self.queued = 0;
     }
 
@@ -104,9 +104,9 @@ impl Dp {
         write_pair(&mut self.freeze, v, 2);
         write_pair(&mut self.flush, v, 4);
         let counters = [
-            &mut self.tmemcount,
-            &mut self.pipecount,
-            &mut self.cmdcount,
+            &mut self.tmem_busy_count,
+            &mut self.pipe_busy_count,
+            &mut self.cmd_busy_count,
             &mut self.clock,
         ];
         for (n, counter) in (6..).zip(counters) {
@@ -117,7 +117,7 @@ impl Dp {
         if bit(v, 5) && !bit(v, 4) {
             self.flush_list();
         }
-        if !self.freeze && self.endpending && !self.runs() {
+        if !self.freeze && self.end_pending && !self.runs() {
             self.start_list();
         }
     }
@@ -129,9 +129,9 @@ impl Dp {
             2 => self.current,
             3 => self.status(),
             4 => self.clock,
-            5 => self.cmdcount,
-            6 => self.pipecount,
-            _ => self.tmemcount,
+            5 => self.cmd_busy_count,
+            6 => self.pipe_busy_count,
+            _ => self.tmem_busy_count,
         }
     }
 
@@ -139,7 +139,7 @@ impl Dp {
         match index {
             0 => {
                 self.start = v & 0xFF_FFF8;
-                self.startpending = true;
+                self.start_pending = true;
             }
             1 => self.write_end(v),
             3 => self.write_status(v),
@@ -151,10 +151,10 @@ impl Dp {
         let add = |counter: u32| counter.wrapping_add(n) & 0xFF_FFFF;
         self.clock = add(self.clock);
         if self.queued > 0 {
-            self.cmdcount = add(self.cmdcount);
+            self.cmd_busy_count = add(self.cmd_busy_count);
         }
-        if self.pipebusy {
-            self.pipecount = add(self.pipecount);
+        if self.pipe_busy {
+            self.pipe_busy_count = add(self.pipe_busy_count);
         }
     }
 }
@@ -184,6 +184,6 @@ impl Machine {
     pub fn sp_break(&mut self) {
         self.sp.halted = true;
         self.sp.broke = true;
-        self.sp.line |= self.sp.intbreak;
+        self.sp.line |= self.sp.interrupt_on_break;
     }
 }

@@ -4,10 +4,10 @@ use super::{words, Bank};
 
 #[derive(Clone, Copy, Default)]
 pub struct Sp {
-    pub splatch: u32,
-    pub ramlatch: u32,
-    pub spaddr: u32,
-    pub ramaddr: u32,
+    pub sp_latch: u32,
+    pub ram_latch: u32,
+    pub sp_addr: u32,
+    pub ram_addr: u32,
     pub len: u32,
     pub count: u32,
     pub skip: u32,
@@ -16,11 +16,11 @@ pub struct Sp {
     pub busy: bool,
     pub storing: bool,
     pub full: bool,
-    pub waitstoring: bool,
+    pub waiting_storing: bool,
     pub halted: bool,
     pub broke: bool,
-    pub sstep: bool,
-    pub intbreak: bool,
+    pub single_step: bool,
+    pub interrupt_on_break: bool,
     pub signals: u8,
     pub line: bool,
     pub semaphore: bool,
@@ -28,8 +28,8 @@ pub struct Sp {
 
 impl Sp {
     fn start(&mut self, word: u32, storing: bool) {
-        self.spaddr = self.splatch;
-        self.ramaddr = self.ramlatch;
+        self.sp_addr = self.sp_latch;
+        self.ram_addr = self.ram_latch;
         self.len = word & 0xFF8;
         self.count = word >> 12 & 0xFF;
         self.skip = word >> 20 & 0xFF8;
@@ -43,7 +43,7 @@ impl Sp {
         if self.busy {
             self.full = true;
             self.waiting = word;
-            self.waitstoring = storing;
+            self.waiting_storing = storing;
         } else {
             self.start(word, storing);
         }
@@ -51,20 +51,20 @@ impl Sp {
 
     #[inline]
     fn step(&mut self) {
-        self.spaddr = self.spaddr & 0x1000 | (self.spaddr + 8) & 0xFFF;
-        self.ramaddr = (self.ramaddr + 8) & 0xFF_FFFF;
+        self.sp_addr = self.sp_addr & 0x1000 | (self.sp_addr + 8) & 0xFFF;
+        self.ram_addr = (self.ram_addr + 8) & 0xFF_FFFF;
         if self.len > 0 {
             self.len -= 8;
         } else if self.count > 0 {
             self.count -= 1;
-            self.ramaddr = (self.ramaddr + self.skip) & 0xFF_FFFF;
+            self.ram_addr = (self.ram_addr + self.skip) & 0xFF_FFFF;
             self.len = self.row;
         } else {
             self.len = 0xFF8;
             self.busy = false;
             if self.full {
                 self.full = false;
-                self.start(self.waiting, self.waitstoring);
+                self.start(self.waiting, self.waiting_storing);
             }
         }
     }
@@ -75,11 +75,11 @@ impl Sp {
         if !self.busy {
             return 0;
         }
-        let bank = if self.spaddr < 0x1000 { dmem } else { imem };
+        let bank = if self.sp_addr < 0x1000 { dmem } else { imem };
         if self.storing {
-            store(bank, self.spaddr, rdram, self.ramaddr);
+            store(bank, self.sp_addr, rdram, self.ram_addr);
         } else {
-            load(bank, self.spaddr, rdram, self.ramaddr);
+            load(bank, self.sp_addr, rdram, self.ram_addr);
         }
         self.step();
         1
@@ -119,19 +119,19 @@ impl Sp {
         if words == 0 {
             return 0;
         }
-        let bank = if self.spaddr < 0x1000 { dmem } else { imem };
-        let (spaddr, ramaddr) = (self.spaddr, self.ramaddr);
+        let bank = if self.sp_addr < 0x1000 { dmem } else { imem };
+        let (sp_addr, ram_addr) = (self.sp_addr, self.ram_addr);
         let places = (0..8 * words)
             .step_by(8)
-            .map(|at| (spaddr + at, (ramaddr + at) & 0xFF_FFFF));
+            .map(|at| (sp_addr + at, (ram_addr + at) & 0xFF_FFFF));
         if self.storing {
             places.for_each(|(offset, ram)| store(bank, offset, rdram, ram));
         } else {
             places.for_each(|(offset, ram)| load(bank, offset, rdram, ram));
         }
         let last = 8 * (words - 1);
-        self.spaddr = spaddr & 0x1000 | (spaddr + last) & 0xFFF;
-        self.ramaddr = (ramaddr + last) & 0xFF_FFFF;
+        self.sp_addr = sp_addr & 0x1000 | (sp_addr + last) & 0xFFF;
+        self.ram_addr = (ram_addr + last) & 0xFF_FFFF;
         self.len = 0;
         self.step();
         words
@@ -151,14 +151,14 @@ impl Sp {
 
 /// Moves a word into RDRAM.
 #[inline]
-fn store(bank: &Bank, spaddr: u32, rdram: &mut [u8], ramaddr: u32) {
-    let word = words::load(bank, (spaddr & 0xFF8) as usize);
-    words::store(rdram, ramaddr as usize, word);
+fn store(bank: &Bank, sp_addr: u32, rdram: &mut [u8], ram_addr: u32) {
+    let word = words::load(bank, (sp_addr & 0xFF8) as usize);
+    words::store(rdram, ram_addr as usize, word);
 }
 
 /// Moves a word into the bank.
 #[inline]
-fn load(bank: &mut Bank, spaddr: u32, rdram: &[u8], ramaddr: u32) {
-    let word = words::load(rdram, ramaddr as usize);
-    words::store(bank, (spaddr & 0xFF8) as usize, word);
+fn load(bank: &mut Bank, sp_addr: u32, rdram: &[u8], ram_addr: u32) {
+    let word = words::load(rdram, ram_addr as usize);
+    words::store(bank, (sp_addr & 0xFF8) as usize, word);
 }

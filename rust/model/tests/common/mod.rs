@@ -297,7 +297,7 @@ pub fn running() -> State {
     let mut state = power_up();
     state.sp.busy = 1;
     state.sp.storing = 1;
-    state.sp.row = 0x20;
+    state.sp.row_len = 0x20;
     state.sp.len = 0x18;
     state.dp.current = 0x28;
     state.dp.limit = 0x38;
@@ -317,23 +317,23 @@ pub fn full_state() -> State {
 
 fn full_sp() -> SpState {
     SpState {
-        splatch: 0x1008,
-        ramlatch: 0x10,
-        spaddr: 0x1018,
-        ramaddr: 0x20,
+        sp_latch: 0x1008,
+        ram_latch: 0x10,
+        sp_addr: 0x1018,
+        ram_addr: 0x20,
         len: 0x30,
         count: 0x40,
         skip: 0x50,
-        row: 0x60,
-        waiting: 0xFFFF_FFF1,
+        row_len: 0x60,
+        waiting_word: 0xFFFF_FFF1,
         busy: 1,
         storing: 1,
         full: 1,
-        waitstoring: 1,
+        waiting_storing: 1,
         halted: 0,
         broke: 0,
-        sstep: 1,
-        intbreak: 1,
+        single_step: 1,
+        interrupt_on_break: 1,
         signals: 0xA5,
         line: 0,
         semaphore: 0,
@@ -347,16 +347,16 @@ fn full_dp() -> DpState {
         current: 0x90,
         limit: 0xA0,
         clock: 0x10,
-        cmdcount: 0xFF_F00F,
-        pipecount: 0x30,
-        tmemcount: 0x40,
-        startpending: 1,
-        endpending: 1,
+        cmd_busy_count: 0xFF_F00F,
+        pipe_busy_count: 0x30,
+        tmem_busy_count: 0x40,
+        start_pending: 1,
+        end_pending: 1,
         xbus: 1,
         freeze: 0,
         flush: 0,
-        pipebusy: 1,
-        wordsleft: 21,
+        pipe_busy: 1,
+        words_left: 21,
         line: 1,
         head: 30,
     }
@@ -369,19 +369,21 @@ pub const FLAGS: [Flag; 17] = [
     ("busy", |state| &mut state.sp.busy),
     ("storing", |state| &mut state.sp.storing),
     ("full", |state| &mut state.sp.full),
-    ("waitstoring", |state| &mut state.sp.waitstoring),
+    ("waiting_storing", |state| &mut state.sp.waiting_storing),
     ("halted", |state| &mut state.sp.halted),
     ("broke", |state| &mut state.sp.broke),
-    ("sstep", |state| &mut state.sp.sstep),
-    ("intbreak", |state| &mut state.sp.intbreak),
+    ("single_step", |state| &mut state.sp.single_step),
+    ("interrupt_on_break", |state| {
+        &mut state.sp.interrupt_on_break
+    }),
     ("sp line", |state| &mut state.sp.line),
     ("semaphore", |state| &mut state.sp.semaphore),
-    ("startpending", |state| &mut state.dp.startpending),
-    ("endpending", |state| &mut state.dp.endpending),
+    ("start_pending", |state| &mut state.dp.start_pending),
+    ("end_pending", |state| &mut state.dp.end_pending),
     ("xbus", |state| &mut state.dp.xbus),
     ("freeze", |state| &mut state.dp.freeze),
     ("flush", |state| &mut state.dp.flush),
-    ("pipebusy", |state| &mut state.dp.pipebusy),
+    ("pipe_busy", |state| &mut state.dp.pipe_busy),
     ("dp line", |state| &mut state.dp.line),
 ];
 
@@ -390,23 +392,43 @@ type Number = (&'static str, fn(&mut State) -> &mut u32, u32, u32);
 
 /// Every field that is a 32-bit number.
 pub const NUMBERS: [Number; 17] = [
-    ("splatch", |state| &mut state.sp.splatch, 0x1FF8, 8),
-    ("ramlatch", |state| &mut state.sp.ramlatch, 0xFF_FFF8, 8),
-    ("spaddr", |state| &mut state.sp.spaddr, 0x1FF8, 8),
-    ("ramaddr", |state| &mut state.sp.ramaddr, 0xFF_FFF8, 8),
+    ("sp_latch", |state| &mut state.sp.sp_latch, 0x1FF8, 8),
+    ("ram_latch", |state| &mut state.sp.ram_latch, 0xFF_FFF8, 8),
+    ("sp_addr", |state| &mut state.sp.sp_addr, 0x1FF8, 8),
+    ("ram_addr", |state| &mut state.sp.ram_addr, 0xFF_FFF8, 8),
     ("len", |state| &mut state.sp.len, 0xFF8, 8),
     ("count", |state| &mut state.sp.count, 0xFF, 1),
     ("skip", |state| &mut state.sp.skip, 0xFF8, 8),
-    ("row", |state| &mut state.sp.row, 0xFF8, 8),
-    ("waiting", |state| &mut state.sp.waiting, u32::MAX, 1),
+    ("row_len", |state| &mut state.sp.row_len, 0xFF8, 8),
+    (
+        "waiting_word",
+        |state| &mut state.sp.waiting_word,
+        u32::MAX,
+        1,
+    ),
     ("start", |state| &mut state.dp.start, 0xFF_FFF8, 8),
     ("end", |state| &mut state.dp.end, 0xFF_FFF8, 8),
     ("current", |state| &mut state.dp.current, 0xFF_FFF8, 8),
     ("limit", |state| &mut state.dp.limit, 0xFF_FFF8, 8),
     ("clock", |state| &mut state.dp.clock, 0xFF_FFFF, 1),
-    ("cmdcount", |state| &mut state.dp.cmdcount, 0xFF_FFFF, 1),
-    ("pipecount", |state| &mut state.dp.pipecount, 0xFF_FFFF, 1),
-    ("tmemcount", |state| &mut state.dp.tmemcount, 0xFF_FFFF, 1),
+    (
+        "cmd_busy_count",
+        |state| &mut state.dp.cmd_busy_count,
+        0xFF_FFFF,
+        1,
+    ),
+    (
+        "pipe_busy_count",
+        |state| &mut state.dp.pipe_busy_count,
+        0xFF_FFFF,
+        1,
+    ),
+    (
+        "tmem_busy_count",
+        |state| &mut state.dp.tmem_busy_count,
+        0xFF_FFFF,
+        1,
+    ),
 ];
 
 /// What the calls on memory give: those that take IMEM, and those that do
@@ -507,7 +529,7 @@ impl Random {
                     _ => self.number() & widest,
                 };
             }
-            state.dp.wordsleft = (self.number() % 22) as u8;
+            state.dp.words_left = (self.number() % 22) as u8;
             state.dp.head = (self.number() % 32) as u8;
             state.queue = self.queue();
             if is_sound(&state) {
