@@ -2,7 +2,10 @@
 
 use crate::pages::{Page, Pages};
 use crate::plain::{Machine, Ran};
-use crate::random::Random;
+use random::Random;
+
+/// The seed of all that is random in what is timed.
+pub const SEED: u64 = 1;
 
 /// RDRAM, the banks and room for output. All columns of a line use the same bytes.
 #[derive(Clone, PartialEq)]
@@ -16,7 +19,7 @@ pub struct Buffers {
 impl Buffers {
     /// Every byte is written once, so that no timed call is the first to touch a page.
     pub fn new(rdram: usize, out: usize) -> Buffers {
-        let mut random = Random::new();
+        let mut random = Random::new(SEED);
         let mut buffers = Buffers {
             rdram: Pages::new(rdram),
             dmem: Box::new(Page([0; 4096])),

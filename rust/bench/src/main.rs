@@ -8,7 +8,6 @@ mod cases;
 mod library;
 mod pages;
 mod plain;
-mod random;
 mod timing;
 
 use timing::{Aim, Column, Line};

@@ -1,11 +1,14 @@
 //! Compares case after case, and stops at the first difference.
 
-use crate::call::Case;
-use crate::difference::differences;
-use crate::report::{describe, report};
-use crate::seen::{library, model, Seen, Side};
+use crate::coverage::totals::Totals;
+use crate::data::call::Case;
+use crate::report::case::describe;
+use crate::report::report;
 use crate::shrink::shrink;
-use crate::totals::Totals;
+use crate::sides::differences::differences;
+use crate::sides::library::library;
+use crate::sides::model::model;
+use crate::sides::observed::{Observed, Side};
 use std::panic::catch_unwind;
 
 /// The two sides and what was compared so far.
@@ -33,8 +36,9 @@ impl Comparison {
         }
     }
 
-    /// Compares one case. Panics with the report where the sides differ, else gives what the model gave.
-    pub fn check(&mut self, case: &Case) -> Seen {
+    /// Compares one case. Panics with the report where the sides differ, else gives what the model
+    /// gave.
+    pub fn check(&mut self, case: &Case) -> Observed {
         self.totals.compared += 1;
         let expected = self.ask(self.expected, case);
         let given = self.ask(self.given, case);
@@ -46,7 +50,7 @@ impl Comparison {
     }
 
     /// What a side gives. Where it panics instead, the case is told.
-    fn ask(&self, side: Side, case: &Case) -> Seen {
+    fn ask(&self, side: Side, case: &Case) -> Observed {
         catch_unwind(|| side(case)).unwrap_or_else(|_| {
             let (noun, compared) = (self.noun, self.totals.compared);
             panic!("a side panics at {noun} {compared}:\n{}", describe(case))

@@ -1,18 +1,26 @@
-//! Bursts of register writes, by the library and by the model; and by the library's own single writes, and cut in two, with the ring slot by slot.
+//! Bursts of register writes, by the library and by the model; and by the library's own
+//! single writes, and cut in two, with the ring slot by slot.
 
-use compare::bursts::*;
-use compare::call::{Call, Case};
+use compare::cases::addresses::{in_any_copy, register};
+use compare::cases::bursts::{any_burst, burst, good_pairs, lengthen, refused_by, Pair};
+use compare::cases::seed::random_of_test;
+use compare::cases::states::sound;
+use compare::cases::unsound_states::{break_clause, unsound, BREAKS};
+use compare::cases::values::{register_value, value_for};
 use compare::comparison::Comparison;
-use compare::fields::{field, FLAGS};
-use compare::memory::Lent;
-use compare::random::Random;
-use compare::ring::{settled, turned};
-use compare::seen::{library_with_ring, model, Seen};
-use compare::states::{break_clause, sound, unsound, BREAKS};
-use compare::totals::{grouped, Sum};
-use compare::values::{in_any_copy, register, register_value, value_for};
+use compare::coverage::summary::grouped;
+use compare::coverage::totals::Sum;
+use compare::data::call::{burst_is_allowed, Call, Case, LONGEST_BURST};
+use compare::data::memory::Lent;
+use compare::data::ring::{normalized, rotated};
+use compare::data::state_fields::{field, FLAGS};
+use compare::sides::composed_calls::{burst_by_two, burst_by_writes};
+use compare::sides::library::library_with_ring;
+use compare::sides::model::model;
+use compare::sides::observed::Observed;
 use model::machine::*;
 use ofersky::State;
+use random::Random;
 
 /// What the eight tests compared.
 static ALL: Sum = Sum::of_tests(8);
@@ -27,27 +35,28 @@ impl Sides {
     fn new() -> Sides {
         Sides([
             Comparison::new("call"),
-            Comparison::of(by_single_writes, library_with_ring, "call"),
-            Comparison::of(by_two_bursts, library_with_ring, "call"),
+            Comparison::of(burst_by_writes, library_with_ring, "call"),
+            Comparison::of(burst_by_two, library_with_ring, "call"),
         ])
     }
 
     /// Gives what the model gave. Each burst is cut at another place.
-    fn check(&mut self, state: State, call: Call) -> Seen {
+    fn check(&mut self, state: State, call: Call) -> Observed {
         let Sides([model, singly, cut]) = self;
         let lent = Lent::new(0, model.totals.compared);
         let case = Case { state, lent, call };
         let seen = model.check(&case);
         singly.check(&case);
         let pairs = case.call.pairs();
-        if is_allowed(pairs) && pairs[0].len() > 1 {
+        if burst_is_allowed(pairs) && pairs[0].len() > 1 {
             cut.check(&case);
         }
         seen
     }
 
-    /// A burst with this number and so many pairs written. It never has a value, and without a pair written the state is as handed in.
-    fn expect(&mut self, state: State, call: Call, number: u32, written: usize) -> Seen {
+    /// A burst with this number and so many pairs written. It never has a value, and without a pair
+    /// written the state is as handed in.
+    fn expect(&mut self, state: State, call: Call, number: u32, written: usize) -> Observed {
         let seen = self.check(state, call);
         let answer = seen.outcome.answer;
         let given = (answer.number, answer.value, answer.count as usize);
@@ -55,7 +64,7 @@ impl Sides {
         if matches!(number, 4 | 11) {
             assert_eq!(seen.outcome.state, state);
         } else if written == 0 {
-            assert_eq!(seen.outcome.state, settled(&state));
+            assert_eq!(seen.outcome.state, normalized(&state));
         }
         seen
     }
@@ -77,7 +86,8 @@ impl Sides {
     }
 }
 
-/// Lengths that are equal or differ by one, and some that are much longer or differ by more; some of these are 0 or 64 in fewer bits.
+/// Lengths that are equal or differ by one, and some that are much longer or differ by more; some
+/// of these are 0 or 64 in fewer bits.
 fn lengths_to_try() -> Vec<(usize, usize)> {
     let beside = |n: usize| [(n, n), (n + 1, n), (n, n + 1)];
     let far = [1, 63, 65, 128, 256, 320, 65_536, 65_600];
@@ -108,7 +118,7 @@ fn spoil(random: &mut Random, call: &mut Call, number: u32) {
 /// Of sound and unsound states, with good addresses alone and with a bad one first.
 #[test]
 fn lengths() {
-    let mut random = Random::of_test(101);
+    let mut random = random_of_test(101);
     let mut sides = Sides::new();
     for lengths in lengths_to_try() {
         for round in 0..6 {
@@ -134,10 +144,11 @@ fn lengths() {
     sides.done("lengths");
 }
 
-/// The first, each in the middle and the last, by either number. The pairs before it are written, and none behind it.
+/// The first, each in the middle and the last, by either number. The pairs before it are written,
+/// and none behind it.
 #[test]
 fn a_bad_pair_at_each_place() {
-    let mut random = Random::of_test(102);
+    let mut random = random_of_test(102);
     let mut sides = Sides::new();
     let mut changed = 0;
     for length in [1, 2, 3, 8, 63, 64] {
@@ -148,7 +159,7 @@ fn a_bad_pair_at_each_place() {
                 let mut pairs = good_pairs(&mut random, length, RDRAM);
                 pairs[place].0 = refused_by(&mut random, number);
                 let seen = sides.expect(state, burst(&pairs), number, place);
-                changed += u32::from(seen.outcome.state != settled(&state));
+                changed += u32::from(seen.outcome.state != normalized(&state));
                 // The same pairs without it are all written.
                 pairs.remove(place);
                 sides.expect(state, burst(&pairs), 0, length - 1);
@@ -162,19 +173,21 @@ fn a_bad_pair_at_each_place() {
 /// Each two places of short bursts, and some of the longest.
 fn two_places() -> Vec<(usize, [usize; 2])> {
     let of_length = |length: usize| {
-        let step = if length == LONGEST { 9 } else { 1 };
+        let step = if length == LONGEST_BURST { 9 } else { 1 };
         let places = move || (0..length).step_by(step);
         let both = move |first| places().map(move |second| (length, [first, second]));
         places().flat_map(both)
     };
-    let all = [2, 3, 4, 5, 8, LONGEST].into_iter().flat_map(of_length);
+    let all = [2, 3, 4, 5, 8, LONGEST_BURST]
+        .into_iter()
+        .flat_map(of_length);
     all.filter(|(_, [first, second])| first < second).collect()
 }
 
 /// The first decides, by whichever number.
 #[test]
 fn two_bad_pairs() {
-    let mut random = Random::of_test(103);
+    let mut random = random_of_test(103);
     let mut sides = Sides::new();
     for (length, places) in two_places() {
         for round in 0..16 {
@@ -226,7 +239,7 @@ fn check_order(sides: &mut Sides, state: State, mut pairs: Vec<Pair>) -> bool {
 /// Each three of those writes in each order, from power-up and from any state.
 #[test]
 fn writes_in_order() {
-    let mut random = Random::of_test(104);
+    let mut random = random_of_test(104);
     let mut sides = Sides::new();
     let mut shown = 0;
     for first in WRITES {
@@ -244,10 +257,11 @@ fn writes_in_order() {
     sides.done("writes in order");
 }
 
-/// Each register twice, with other pairs before, between and behind; then SEMAPHORE, which no value changes.
+/// Each register twice, with other pairs before, between and behind; then SEMAPHORE, which no value
+/// changes.
 #[test]
 fn registers_twice() {
-    let mut random = Random::of_test(105);
+    let mut random = random_of_test(105);
     let mut sides = Sides::new();
     let ordered = [
         SP_SPADDR, SP_RAMADDR, SP_RDLEN, SP_WRLEN, SP_STATUS, DP_START, DP_END, DP_STATUS,
@@ -258,7 +272,7 @@ fn registers_twice() {
             let mut pair = || {
                 // A few low bits are flags of a status.
                 let value = match random.once_in(2) {
-                    true => random.word() & 0x3F,
+                    true => random.next_u32() & 0x3F,
                     false => value_for(&mut random, register, RDRAM),
                 };
                 (in_any_copy(&mut random, register), value)
@@ -286,20 +300,21 @@ fn registers_twice() {
 
 /// These pairs with good ones before, between and behind them.
 fn among_others(random: &mut Random, pairs: &[Pair]) -> Vec<Pair> {
-    let before = random.place(4);
+    let before = random.index(4);
     let mut all = good_pairs(random, before, RDRAM);
     for pair in pairs {
         all.push(*pair);
-        let others = random.place(4);
+        let others = random.index(4);
         all.extend(good_pairs(random, others, RDRAM));
     }
     all
 }
 
-/// Each broken clause, and each byte that is no flag in each flag, with bursts of each kind: 4 comes before the numbers of pairs, and 11 before 4.
+/// Each broken clause, and each byte that is no flag in each flag, with bursts of each kind: 4
+/// comes before the numbers of pairs, and 11 before 4.
 #[test]
 fn unsound_states() {
-    let mut random = Random::of_test(106);
+    let mut random = random_of_test(106);
     let mut sides = Sides::new();
     for clause in BREAKS {
         for _ in 0..10 {
@@ -312,7 +327,7 @@ fn unsound_states() {
         for byte in 2..256 {
             let mut state = sound(&mut random, RDRAM);
             (field(name).set)(&mut state, byte);
-            let length = random.place(4);
+            let length = random.index(4);
             let pairs = good_pairs(&mut random, length, RDRAM);
             sides.expect(state, burst(&pairs), 4, 0);
             if byte % 32 == 2 {
@@ -348,11 +363,11 @@ fn refused_bursts(sides: &mut Sides, random: &mut Random, state: State) {
 /// They succeed, count and change nothing, alone and before a pair that is refused.
 #[test]
 fn read_only_registers() {
-    let mut random = Random::of_test(107);
+    let mut random = random_of_test(107);
     let mut sides = Sides::new();
     for round in 0..500 {
         let state = sound(&mut random, RDRAM);
-        let mut pairs: Vec<Pair> = (0..1 + random.place(40))
+        let mut pairs: Vec<Pair> = (0..1 + random.index(40))
             .map(|_| {
                 let register = random.pick(&READ_ONLY);
                 let address = in_any_copy(&mut random, register);
@@ -361,20 +376,21 @@ fn read_only_registers() {
             .collect();
         let all = pairs.len();
         let seen = sides.expect(state, burst(&pairs), 0, all);
-        assert_eq!(seen.outcome.state, settled(&state));
+        assert_eq!(seen.outcome.state, normalized(&state));
         let number = [10, 5][round % 2];
         pairs.push((refused_by(&mut random, number), 0));
         pairs.push((register(&mut random), register_value(&mut random)));
         let seen = sides.expect(state, burst(&pairs), number, all);
-        assert_eq!(seen.outcome.state, settled(&state));
+        assert_eq!(seen.outcome.state, normalized(&state));
     }
     sides.done("read-only registers");
 }
 
-/// One after the other, each on what the last one left, wherever it stopped; at times on a state that is not sound.
+/// One after the other, each on what the last one left, wherever it stopped; at times on a state
+/// that is not sound.
 #[test]
 fn any_bursts() {
-    let mut random = Random::of_test(108);
+    let mut random = random_of_test(108);
     let mut sides = Sides::new();
     for walk in 0..800 {
         let mut state = match walk % 2 {
@@ -389,7 +405,7 @@ fn any_bursts() {
             let seen = sides.check(state, call);
             assert_ne!(seen.number(), 4, "bursts keep a sound state sound");
             // The queue's words go on from other slots.
-            state = turned(&seen.outcome.state, &mut random);
+            state = rotated(&seen.outcome.state, &mut random);
         }
         assert!(ofersky::is_sound(state));
     }

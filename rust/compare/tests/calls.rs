@@ -1,22 +1,27 @@
 //! Single calls, made of the library and of the model.
 
-use compare::call::{Call, Case};
-use compare::cases::{
-    any_case, call_of, good_lengths, odd_lengths, NO_REGISTER, ON_A_STATE, ON_MEMORY, RUN,
+use compare::cases::addresses::{edge_addresses, not_register};
+use compare::cases::calls::{any_case, call_of, NO_REGISTER, ON_A_STATE, ON_MEMORY, RUN};
+use compare::cases::invalid_recordings::{
+    of_length, with_bad_address, with_bad_kind, with_changed_bytes,
 };
+use compare::cases::lengths::{good_lengths, odd_lengths};
+use compare::cases::seed::random_of_test;
+use compare::cases::states::sound;
+use compare::cases::traffic::sequences;
+use compare::cases::unsound_states::{break_clause, span_of, unsound, BREAKS};
+use compare::cases::values::{register_value, value_for};
 use compare::comparison::Comparison;
-use compare::damage::{bad_address, bad_kind, exactly, flipped, LONGEST};
-use compare::fields::{field, FIELDS, FLAGS};
-use compare::memory::{Lent, LONGEST_RDRAM};
-use compare::random::Random;
-use compare::ring::turned;
-use compare::seen::{next_state, Seen};
-use compare::states::{break_clause, sound, unsound, BREAKS};
-use compare::totals::{Sum, Totals};
-use compare::traffic::scenes;
-use compare::values::{edge_addresses, not_register, register_value, value_for};
+use compare::coverage::totals::{Sum, Totals};
+use compare::data::call::{Call, Case};
+use compare::data::memory::{Lent, LONGEST_RDRAM};
+use compare::data::recording::LONGEST;
+use compare::data::ring::rotated;
+use compare::data::state_fields::{field, FIELDS, FLAGS};
+use compare::sides::observed::{next_state, Observed};
 use model::machine::{DP_STATUS, REGISTERS, SP_STATUS};
 use ofersky::{Outcome, State};
+use random::Random;
 
 /// What the eight tests compared.
 static ALL: Sum = Sum::of_tests(8);
@@ -27,12 +32,12 @@ fn done(test: &str, totals: &Totals) {
     assert_eq!(totals.runs.unforeseen, 0);
     if let Some(all) = ALL.add(totals) {
         println!("all single calls: {}", all.calls_line());
-        println!("their queues: {}", all.sights.tally.line());
+        println!("their queues: {}", all.queue.tally.line());
         println!("their rows: {}", all.rows.calls.line());
         println!("their bursts: {}", all.bursts.tally.line());
         all.rows.calls.expect(25);
         all.bursts.tally.expect(25);
-        all.sights.tally.expect(25);
+        all.queue.tally.expect(25);
         assert!(all.compared >= 200_000);
     }
 }
@@ -50,7 +55,7 @@ fn read_and_write(comparison: &mut Comparison, state: State, address: u32, value
 
 #[test]
 fn registers() {
-    let mut random = Random::of_test(21);
+    let mut random = random_of_test(21);
     let mut comparison = Comparison::new("call");
     comparison.check(&plain(State::default(), Call::PowerUp));
     for _ in 0..1_500 {
@@ -86,7 +91,7 @@ fn bit_patterns() -> Vec<u32> {
 
 #[test]
 fn status_bits() {
-    let mut random = Random::of_test(22);
+    let mut random = random_of_test(22);
     let mut comparison = Comparison::new("call");
     for _ in 0..30 {
         let state = sound(&mut random, 4_096);
@@ -101,7 +106,7 @@ fn status_bits() {
 
 #[test]
 fn addresses_beside_the_registers() {
-    let mut random = Random::of_test(23);
+    let mut random = random_of_test(23);
     let mut comparison = Comparison::new("call");
     let near = |base: u32| base - 0x10..base + 0x50;
     let blocks = near(0x0404_0000).chain(near(0x0410_0000));
@@ -168,7 +173,7 @@ impl Words {
 
 #[test]
 fn turns_runs_and_looks() {
-    let mut random = Random::of_test(24);
+    let mut random = random_of_test(24);
     let mut comparison = Comparison::new("call");
     let [mut moved, mut found] = [0; 2];
     let mut words = Words {
@@ -209,7 +214,7 @@ fn turns_runs_and_looks() {
 
 #[test]
 fn walks() {
-    let mut random = Random::of_test(25);
+    let mut random = random_of_test(25);
     let mut comparison = Comparison::new("call");
     for walk in 0..700 {
         let lent = good_lengths(&mut random);
@@ -221,7 +226,7 @@ fn walks() {
             let case = any_case(&mut random, state, lent);
             let seen = comparison.check(&case);
             // The queue's words go on from other slots.
-            state = turned(&next_state(&case, &seen), &mut random);
+            state = rotated(&next_state(&case, &seen), &mut random);
         }
         let sound = comparison.check(&plain(state, Call::IsSound)).sound;
         assert!(
@@ -234,7 +239,7 @@ fn walks() {
 
 #[test]
 fn unsound_states() {
-    let mut random = Random::of_test(26);
+    let mut random = random_of_test(26);
     let mut comparison = Comparison::new("call");
     for clause in BREAKS {
         for round in 0..100 * ON_A_STATE {
@@ -246,6 +251,7 @@ fn unsound_states() {
             comparison.check(&Case { state, lent, call });
         }
     }
+    numbers_at_their_edges(&mut comparison);
     every_flag_byte(&mut comparison, &mut random);
     every_ring(&mut comparison, &mut random);
     for call in ["read_register", "write_register", "tick", "sp_break"] {
@@ -263,6 +269,20 @@ fn unsound_states() {
 fn expect_unsound(comparison: &mut Comparison, state: State, clause: &str) {
     let seen = comparison.check(&plain(state, Call::IsSound));
     assert!(!seen.sound, "{clause} broken, and still sound");
+}
+
+/// Each number alone, with all else as at power-up: the last one that fits, and the first that does
+/// not.
+fn numbers_at_their_edges(comparison: &mut Comparison) {
+    for name in BREAKS.iter().filter(|name| name.contains('.')) {
+        let (span, step) = span_of(name);
+        for (value, sound) in [(span - step, true), (span, false)] {
+            let mut state = ofersky::power_up();
+            (field(name).set)(&mut state, value.into());
+            let seen = comparison.check(&plain(state, Call::IsSound));
+            assert_eq!(seen.sound, sound, "{name} 0x{value:X}");
+        }
+    }
 }
 
 /// Every byte that is no flag, in every flag.
@@ -292,7 +312,7 @@ fn every_ring(comparison: &mut Comparison, random: &mut Random) {
 
 #[test]
 fn soundness_and_odd_lengths() {
-    let mut random = Random::of_test(27);
+    let mut random = random_of_test(27);
     let mut comparison = Comparison::new("call");
     for _ in 0..12_000 {
         let lent = odd_lengths(&mut random);
@@ -302,7 +322,7 @@ fn soundness_and_odd_lengths() {
             sound(&mut random, lent.rdram)
         };
         comparison.check(&plain(state, Call::IsSound));
-        let kind = ON_MEMORY + random.place(ON_A_STATE - ON_MEMORY);
+        let kind = ON_MEMORY + random.index(ON_A_STATE - ON_MEMORY);
         let call = call_of(&mut random, kind, &state, lent.rdram);
         comparison.check(&Case { state, lent, call });
     }
@@ -348,43 +368,32 @@ fn huge_memory(comparison: &mut Comparison, random: &mut Random) {
     }
 }
 
-/// A recording of a few scenes from power-up, the last one perhaps cut.
+/// A recording of a few sequences from power-up, the last one perhaps cut.
 fn recording(random: &mut Random) -> Vec<u8> {
-    let mut recording = scenes(random, 60);
+    let mut recording = sequences(random, 60);
     recording.truncate(300);
     recording
 }
 
 #[test]
 fn reading_records() {
-    let mut random = Random::of_test(28);
+    let mut random = random_of_test(28);
     let mut comparison = Comparison::new("call");
     for _ in 0..60 {
         let good = recording(&mut random);
-        let mut recordings = vec![bad_kind(&mut random, &good), flipped(&mut random, &good)];
+        let mut recordings = vec![
+            with_bad_kind(&mut random, &good),
+            with_changed_bytes(&mut random, &good),
+        ];
         for _ in 0..3 {
-            recordings.extend(bad_address(&mut random, &good, 4_096));
+            recordings.extend(with_bad_address(&mut random, &good, 4_096));
         }
         recordings.push(good);
         for recording in recordings {
             every_place(&mut comparison, &recording);
         }
     }
-    for length in [LONGEST, LONGEST + 1, 70_000] {
-        let recording = exactly(&recording(&mut random), length);
-        for place in [
-            0,
-            1,
-            9,
-            length / 2,
-            length - 13,
-            length - 1,
-            length,
-            usize::MAX,
-        ] {
-            read_record(&mut comparison, recording.clone(), place);
-        }
-    }
+    some_places_of_long_recordings(&mut comparison, &mut random);
     every_place(&mut comparison, &[]);
     every_address(&mut comparison);
     let totals = &comparison.totals;
@@ -395,7 +404,19 @@ fn reading_records() {
     done("reading records", totals);
 }
 
-/// The addresses at the edges of the blocks, in each kind that has an address; and cut, which is told first.
+/// Recordings of the longest length allowed, and of more.
+fn some_places_of_long_recordings(comparison: &mut Comparison, random: &mut Random) {
+    for length in [LONGEST, LONGEST + 1, 70_000] {
+        let recording = of_length(&recording(random), length);
+        let last = [length - 13, length - 1, length, usize::MAX];
+        for place in [0, 1, 9, length / 2].into_iter().chain(last) {
+            read_record(comparison, recording.clone(), place);
+        }
+    }
+}
+
+/// The addresses at the edges of the blocks, in each kind that has an address; and cut, which is
+/// told first.
 fn every_address(comparison: &mut Comparison) {
     for address in edge_addresses() {
         for (kind, body) in [(1, 4), (2, 4), (8, 8), (9, 8)] {
@@ -407,12 +428,13 @@ fn every_address(comparison: &mut Comparison) {
     }
 }
 
-fn read_record(comparison: &mut Comparison, recording: Vec<u8>, place: usize) -> Seen {
+fn read_record(comparison: &mut Comparison, recording: Vec<u8>, place: usize) -> Observed {
     let call = Call::ReadRecord { recording, place };
     comparison.check(&plain(State::default(), call))
 }
 
-/// Every place of a recording, some after it, and places whose sum with a length passes the largest number.
+/// Every place of a recording, some after it, and places whose sum with a length passes the largest
+/// number.
 fn every_place(comparison: &mut Comparison, recording: &[u8]) {
     let huge = [
         usize::MAX,

@@ -1,22 +1,27 @@
-//! Runs of the SP, the DP and the consumer, by the library and by the model: any, every small one, those in which the SP acts alone, and the library against
-//! its own single turns.
-//! And series of such turns: what the order does to them.
+//! Runs of the SP, the DP and the consumer, by the library and by the model: any, every
+//! small one, those in which the SP acts alone, and the library against its own single turns. And
+//! series of such turns: what the order does to them.
 
-use compare::call::{Call, Case};
-use compare::cases::{good_lengths, odd_lengths, run_of};
+use compare::cases::calls::run_of;
+use compare::cases::lengths::{good_lengths, odd_lengths};
+use compare::cases::rows::{busy, wait, Edges};
+use compare::cases::seed::random_of_test;
+use compare::cases::states::{both_busy, sound};
+use compare::cases::turns::any_turns;
+use compare::cases::unsound_states::{break_clause, BREAKS};
 use compare::comparison::Comparison;
-use compare::memory::Lent;
-use compare::random::Random;
-use compare::rows::{busy, wait, Edges, BANK_WORDS};
-use compare::runs::{by_single_turns, shares};
-use compare::seen::library_with_ring;
-use compare::series::{
-    any_turns, sp_turns_first, sync_full_before_the_last, words_to_consume, Series, Turn,
+use compare::coverage::shared_bytes::shares;
+use compare::coverage::totals::{Sum, Totals};
+use compare::data::call::{Call, Case};
+use compare::data::memory::{Lent, BANK_WORDS};
+use compare::data::words_left::sp_left;
+use compare::sides::composed_calls::run_by_turns;
+use compare::sides::library::library_with_ring;
+use compare::sides::series::{
+    sp_turns_first, sync_full_before_the_last, words_to_consume, Series, Turn,
 };
-use compare::states::{both_busy, break_clause, sound, BREAKS};
-use compare::totals::{Sum, Totals};
-use compare::values::sp_left;
 use ofersky::{SpState, State};
+use random::Random;
 
 /// What the six tests compared.
 static ALL: Sum = Sum::of_tests(6);
@@ -44,7 +49,7 @@ fn any_run(random: &mut Random) -> Case {
 
 #[test]
 fn any_runs() {
-    let mut random = Random::of_test(71);
+    let mut random = random_of_test(71);
     let mut comparison = Comparison::new("call");
     for _ in 0..40_000 {
         comparison.check(&any_run(&mut random));
@@ -54,7 +59,8 @@ fn any_runs() {
     done("any runs", totals);
 }
 
-/// A transfer of four words that writes this many words after the place where a list of four begins, or before it; and so many words queued.
+/// A transfer of four words that writes this many words after the place where a list of four
+/// begins, or before it; and so many words queued.
 fn four_words_each(after: i32, xbus: bool, queued: u8) -> State {
     let mut state = ofersky::power_up();
     let place = 0x100u32.wrapping_add_signed(8 * after);
@@ -109,9 +115,9 @@ fn every_small_run() {
 
 #[test]
 fn runs_of_single_turns() {
-    let mut random = Random::of_test(72);
+    let mut random = random_of_test(72);
     // The ring is compared too, slot by slot.
-    let mut comparison = Comparison::of(by_single_turns, library_with_ring, "call");
+    let mut comparison = Comparison::of(run_by_turns, library_with_ring, "call");
     for _ in 0..20_000 {
         comparison.check(&any_run(&mut random));
     }
@@ -126,7 +132,7 @@ impl Sides {
     fn new() -> Sides {
         Sides([
             Comparison::new("call"),
-            Comparison::of(by_single_turns, library_with_ring, "call"),
+            Comparison::of(run_by_turns, library_with_ring, "call"),
         ])
     }
 
@@ -144,12 +150,14 @@ impl Sides {
     }
 }
 
-/// A way in which the SP comes to act alone, at the outset or after some rounds: the words of the list and those queued, FREEZE, the budgets of the DP and
-/// the consumer, and the length of the output.
+/// A way in which the SP comes to act alone, at the outset or after some rounds: the words of the
+/// list and those queued, FREEZE, the budgets of the DP and the consumer, and the length of the
+/// output.
 type Way = (u32, u8, u8, [u32; 2], usize);
 
 const WAYS: [Way; 10] = [
-    // No list and nothing queued; no budgets; FREEZE; a full queue without room, and one without a budget.
+    // No list and nothing queued; no budgets; FREEZE; a full queue without room, and one without a
+    // budget.
     (0, 0, 0, [u32::MAX, u32::MAX], 64),
     (40, 5, 0, [0, 0], 64),
     (40, 5, 1, [u32::MAX, u32::MAX], 64),
@@ -159,12 +167,14 @@ const WAYS: [Way; 10] = [
     (3, 0, 0, [u32::MAX, u32::MAX], 64),
     (3, 0, 0, [u32::MAX, 0], 64),
     (0, 2, 0, [0, u32::MAX], 64),
-    // A full queue that lets one word in, after one was consumed: then the budget or the room is used.
+    // A full queue that lets one word in, after one was consumed: then the budget or the room is
+    // used.
     (40, 32, 0, [u32::MAX, 1], 64),
     (40, 32, 0, [u32::MAX, u32::MAX], 15),
 ];
 
-/// A run of this engine with this budget. The list stands in the memory that the SP writes, at the third of its words, so that it is fetched before them.
+/// A run of this engine with this budget. The list stands in the memory that the SP writes, at the
+/// third of its words, so that it is fetched before them.
 fn beside(way: Way, sp: SpState, budget: u32) -> (State, Call) {
     let (list, queued, freeze, [fetch, consume], out) = way;
     let mut state = four_words_each(0, sp.storing == 0, queued);
@@ -181,7 +191,8 @@ fn beside(way: Way, sp: SpState, budget: u32) -> (State, Call) {
     (state, Call::Run { budgets, out })
 }
 
-/// The budgets that end within a row, with it, some words after it, with the next row and with all that is left, or beside these.
+/// The budgets that end within a row, with it, some words after it, with the next row and with all
+/// that is left, or beside these.
 fn sp_budgets(sp: &SpState) -> Vec<u32> {
     let (words, row) = (sp.len / 8 + 1, sp.row_len / 8 + 1);
     let state = State {
@@ -201,7 +212,8 @@ fn sp_budgets(sp: &SpState) -> Vec<u32> {
     budgets
 }
 
-/// None, and each with the others: the bank, the top of RDRAM and the lent length, in two orders where there is room for them.
+/// None, and each with the others: the bank, the top of RDRAM and the lent length, in two orders
+/// where there is room for them.
 fn some_edges(words: u32) -> Vec<Edges> {
     let inside = |word: u32| Some(word).filter(|word| (1..words).contains(word));
     let mut all = Vec::new();
@@ -243,7 +255,8 @@ fn rows_for_runs() -> Vec<(SpState, usize)> {
     rows
 }
 
-/// With the longest RDRAM, and with one that is three words shorter: both wrap at the top after the fourth word. These are few, because each takes long.
+/// With the longest RDRAM, and with one that is three words shorter: both wrap at the top after the
+/// fourth word. These are few, because each takes long.
 fn longest_rdram(sides: &mut Sides) {
     for (budget, length) in [(3, 4), (5, 4), (u32::MAX, 4), (5, 1), (u32::MAX, 1)] {
         let edges = Edges {
@@ -280,21 +293,21 @@ fn runs_of_the_sp_alone() {
 /// Any rows, at edges in any order.
 #[test]
 fn any_runs_of_the_sp_alone() {
-    let mut random = Random::of_test(76);
+    let mut random = random_of_test(76);
     let mut sides = Sides::new();
     for _ in 0..4_000 {
         let most = random.pick(&[4, 20, 20, 200, 512]);
-        let words = 1 + random.below(most) as u32;
+        let words = 1 + random.below(most);
         let edge = |random: &mut Random| {
-            let word = random.below(u64::from(words) + 4) as u32;
+            let word = random.below(words + 4);
             Some(word).filter(|word| (1..words).contains(word))
         };
         let [bank, top, length] = [(); 3].map(|_| edge(&mut random));
         let length = length.filter(|length| top < Some(*length));
-        let moved = random.below(u64::from(BANK_WORDS - words) + 1) as u32;
+        let moved = random.below(BANK_WORDS - words + 1);
         let moved = moved.min(random.pick(&[0, 0, 9, 512]));
-        let mut sp = busy(words, moved, random.below(3) as u32, random.flag());
-        sp.sp_addr = random.word() & 0x1000;
+        let mut sp = busy(words, moved, random.below(3), random.flag());
+        sp.sp_addr = random.next_u32() & 0x1000;
         let waiting = random.pick(&[None, None, Some(0), Some(1)]);
         wait(&mut sp, waiting);
         let mut rdram = Edges { bank, top, length }.place(&mut sp, words);
@@ -303,16 +316,17 @@ fn any_runs_of_the_sp_alone() {
         }
         let budget = random.pick(&sp_budgets(&sp));
         let (state, call) = beside(random.pick(&WAYS), sp, budget);
-        let lent = Lent::new(rdram, 1 + random.below(1 << 16));
+        let lent = Lent::new(rdram, u64::from(1 + random.below(1 << 16)));
         sides.check(&Case { state, lent, call });
     }
     sides.done("any runs of the SP alone", 20);
 }
 
-/// Every number in its order, also where a budget is 0; the words that would be consumed, and the memories, stay as they were.
+/// Every number in its order, also where a budget is 0; the words that would be consumed, and the
+/// memories, stay as they were.
 #[test]
 fn refused_runs() {
-    let mut random = Random::of_test(73);
+    let mut random = random_of_test(73);
     let mut comparison = Comparison::new("call");
     for round in 0..20_000 {
         let lent = if round % 3 == 0 {
@@ -372,19 +386,20 @@ fn rows_moved(turns: &[Turn], series: &Series) -> bool {
     answers.any(|(turn, answer)| *turn == Turn::Row && answer.count > 0)
 }
 
-/// A state for a series: both engines have words left, but no list is longer than a series can fetch.
+/// A state for a series: both engines have words left, but no list is longer than a series can
+/// fetch.
 fn outset(random: &mut Random, rdram: usize) -> State {
     let mut state = both_busy(random, rdram);
     let dp = &mut state.dp;
-    dp.end = dp.end.min(dp.start + 8 * random.below(60) as u32);
+    dp.end = dp.end.min(dp.start + 8 * random.below(60));
     state
 }
 
-/// For every series, drained or not, with FREEZE or without: the same turns with the SP's first give the same answers, memories and end state, ring
-/// included, where no byte is shared.
+/// For every series, drained or not, with FREEZE or without: the same turns with the SP's first
+/// give the same answers, memories and end state, ring included, where no byte is shared.
 #[test]
 fn sp_turns_moved_to_the_front() {
-    let mut random = Random::of_test(74);
+    let mut random = random_of_test(74);
     let mut orders = Orders::default();
     for _ in 0..5_000 {
         let lent = good_lengths(&mut random);
@@ -410,7 +425,8 @@ fn sp_turns_moved_to_the_front() {
     orders.expect(100, &[orders.rows]);
 }
 
-/// These SP turns with any others between them, and then turns until nothing is left to fetch or consume.
+/// These SP turns with any others between them, and then turns until nothing is left to fetch or
+/// consume.
 fn drained(random: &mut Random, state: State, lent: &Lent, sp_turns: &[Turn]) -> Series {
     let mut series = Series::of(state, lent.bytes(), &[]);
     for turn in sp_turns {
@@ -425,7 +441,8 @@ fn drained(random: &mut Random, state: State, lent: &Lent, sp_turns: &[Turn]) ->
     series
 }
 
-/// What two series must have in common, beside the words: SP answers, memories and the end state. PIPE_BUSY is left out if it may differ.
+/// What two series must have in common, beside the words: SP answers, memories and the end state.
+/// PIPE_BUSY is left out if it may differ.
 fn in_common(mut series: Series, pipe_counts: bool) -> Series {
     if !pipe_counts {
         series.state.dp.pipe_busy = 0;
@@ -498,7 +515,7 @@ impl Pair {
 /// Demand 3: series that end with nothing left to fetch or consume.
 #[test]
 fn drained_series() {
-    let mut random = Random::of_test(75);
+    let mut random = random_of_test(75);
     let mut orders = Orders::default();
     for _ in 0..4_000 {
         let pair = Pair::new(&mut random);

@@ -1,21 +1,27 @@
-//! The mirrors of the DP registers: every copy against the model, and the library against itself at the first copy.
+//! The mirrors of the DP registers: every copy against the model, and the library against itself at
+//! the first copy.
 
-use compare::bursts::{any_burst, burst};
-use compare::call::{Call, Case};
-use compare::cases::odd_lengths;
+use compare::cases::addresses::in_any_copy;
+use compare::cases::bursts::{any_burst, burst};
+use compare::cases::invalid_recordings::with_changed_bytes;
+use compare::cases::lengths::odd_lengths;
+use compare::cases::seed::random_of_test;
+use compare::cases::states::sound;
+use compare::cases::traffic::Traffic;
+use compare::cases::unsound_states::unsound;
+use compare::cases::values::register_value;
 use compare::comparison::Comparison;
-use compare::damage::flipped;
-use compare::fields::to_model;
-use compare::memory::Lent;
-use compare::random::Random;
-use compare::records::pieces;
-use compare::seen::{library, Seen};
-use compare::states::{sound, unsound};
-use compare::traffic::Traffic;
-use compare::values::{first_copy, in_any_copy, in_copy, register_value, COPIES};
-use compare::watch::Watch;
+use compare::coverage::counting_replay::CountingReplay;
+use compare::data::call::{Call, Case};
+use compare::data::memory::Lent;
+use compare::data::recording::pieces;
+use compare::data::registers::{first_copy, in_copy, COPIES};
+use compare::data::state_fields::to_model;
+use compare::sides::library::library;
+use compare::sides::observed::Observed;
 use model::machine::REGISTERS;
 use ofersky::{State, LISTING_BYTES};
+use random::Random;
 
 /// The DP registers among the sixteen.
 fn dp_registers() -> &'static [u32] {
@@ -37,7 +43,7 @@ fn case(state: State, lent: Lent, call: Call) -> Case {
 
 #[test]
 fn every_copy() {
-    let mut random = Random::of_test(51);
+    let mut random = random_of_test(51);
     let mut comparison = Comparison::new("call");
     for copy in 0..COPIES {
         let state = any_state(&mut random);
@@ -61,7 +67,7 @@ fn every_copy() {
 }
 
 /// The library, called at the first copy of each register.
-fn at_first_copy(case: &Case) -> Seen {
+fn at_first_copy(case: &Case) -> Observed {
     // What it is lent is not what differs.
     let pairs = case.call.pairs().map(<[u32]>::to_vec);
     let mut case = case.clone();
@@ -73,7 +79,7 @@ fn at_first_copy(case: &Case) -> Seen {
         Call::Replay { recording, .. } => unmirror(recording),
         call => panic!("{} is not called through mirrors", call.name()),
     }
-    Seen {
+    Observed {
         pairs,
         ..library(&case)
     }
@@ -91,7 +97,7 @@ fn unmirror(recording: &mut [u8]) {
 }
 
 /// The library through mirrors, and in its listing the first copy's address in each `R` line.
-fn shown_at_first_copy(case: &Case) -> Seen {
+fn shown_at_first_copy(case: &Case) -> Observed {
     let mut seen = library(case);
     let listing = &mut seen.bytes[3][..seen.written];
     for line in listing.split_mut(|byte| *byte == b'\n') {
@@ -106,7 +112,7 @@ fn shown_at_first_copy(case: &Case) -> Seen {
 
 #[test]
 fn calls_as_at_the_first_copy() {
-    let mut random = Random::of_test(52);
+    let mut random = random_of_test(52);
     let mut comparison = Comparison::of(at_first_copy, library, "call");
     for _ in 0..20_000 {
         let state = any_state(&mut random);
@@ -129,23 +135,23 @@ fn calls_as_at_the_first_copy() {
     println!("as at the first copy: {}", comparison.totals.calls_line());
 }
 
-/// Traffic of some scenes, at times with a byte changed, from this state.
+/// Traffic of some sequences, at times with a byte changed, from this state.
 fn recording(random: &mut Random, state: &State, lent: &Lent) -> Vec<u8> {
-    let watch = Watch::new(to_model(state), lent.bytes());
-    let mut traffic = Traffic::new(random, watch);
+    let replay = CountingReplay::new(to_model(state), lent.bytes());
+    let mut traffic = Traffic::new(random, replay);
     for _ in 0..6 {
-        traffic.scene();
+        traffic.sequence();
     }
     let mut bytes = traffic.bytes;
     if random.once_in(3) && !bytes.is_empty() {
-        bytes = flipped(random, &bytes);
+        bytes = with_changed_bytes(random, &bytes);
     }
     bytes
 }
 
 #[test]
 fn replays_as_at_the_first_copy() {
-    let mut random = Random::of_test(53);
+    let mut random = random_of_test(53);
     let mut comparison = Comparison::of(at_first_copy, shown_at_first_copy, "recording");
     let mut through_mirrors = 0;
     for _ in 0..2_000 {
@@ -153,7 +159,7 @@ fn replays_as_at_the_first_copy() {
         let lent = if random.once_in(8) {
             odd_lengths(&mut random)
         } else {
-            Lent::new(4_096, random.below(1 << 16))
+            Lent::new(4_096, random.below(1 << 16).into())
         };
         let recording = recording(&mut random, &state, &lent);
         let mut unmirrored = recording.clone();

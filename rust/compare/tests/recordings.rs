@@ -1,24 +1,30 @@
 //! Generated recordings, replayed by the library and by the model.
 
-use compare::call::{Call, Case};
-use compare::cases::odd_lengths;
+use compare::cases::addresses::edge_addresses;
+use compare::cases::invalid_recordings::{
+    of_length, with_bad_address, with_bad_kind, with_changed_bytes,
+};
+use compare::cases::lengths::{odd_lengths, rdram_length};
+use compare::cases::seed::random_of_test;
+use compare::cases::states::sound;
+use compare::cases::traffic::Traffic;
+use compare::cases::unsound_states::{break_clause, unsound, BREAKS};
 use compare::comparison::Comparison;
-use compare::damage::{bad_address, bad_kind, exactly, flipped, LONGEST};
-use compare::events::{Event, EVENTS};
-use compare::fields::{field, from_model, to_model, FLAGS};
-use compare::memory::{rdram_length, Lent, LONGEST_RDRAM};
-use compare::random::Random;
-use compare::records::pieces;
-use compare::seen::Seen;
-use compare::states::{break_clause, sound, unsound, BREAKS};
-use compare::totals::{Found, Sum, Totals};
-use compare::traffic::Traffic;
-use compare::values::{edge_addresses, ADDRESS_BITS};
-use compare::verdicts::listed;
-use compare::watch::Watch;
+use compare::coverage::counting_replay::CountingReplay;
+use compare::coverage::events::{Event, EVENTS};
+use compare::coverage::findings::FindingCounts;
+use compare::coverage::totals::{Sum, Totals};
+use compare::data::call::{Call, Case};
+use compare::data::findings::listed;
+use compare::data::memory::ADDRESS_BITS;
+use compare::data::memory::{Lent, LONGEST_RDRAM};
+use compare::data::recording::{pieces, LONGEST};
+use compare::data::state_fields::{field, from_model, to_model, FLAGS};
+use compare::sides::observed::Observed;
 use model::machine::{command_length, DP_END, DP_START, DP_STATUS, SP_RDLEN, SP_WRLEN};
 use model::recording::Record;
 use ofersky::{State, LISTING_BYTES};
+use random::Random;
 
 /// What the six tests compared.
 static ALL: Sum = Sum::of_tests(6);
@@ -41,9 +47,9 @@ fn case(state: State, lent: Lent, recording: Vec<u8>, out: usize) -> Case {
     }
 }
 
-/// Replays on both sides, and finds the place of a stop again: it is where the accepted records end. The listing must tell it too,
-/// and what was compared and differed.
-fn check(comparison: &mut Comparison, case: &Case) -> Seen {
+/// Replays on both sides, and finds the place of a stop again: it is where the accepted records
+/// end. The listing must tell it too, and what was compared and differed.
+fn check(comparison: &mut Comparison, case: &Case) -> Observed {
     let seen = comparison.check(case);
     let Call::Replay { recording, out } = &case.call else {
         panic!("{} is no replay", case.call.name());
@@ -71,7 +77,7 @@ fn check(comparison: &mut Comparison, case: &Case) -> Seen {
 fn room(random: &mut Random) -> usize {
     match random.below(8) {
         0 => random.pick(&[0, 1, 8, 9, 10, 15]),
-        1 => random.place(400),
+        1 => random.index(400),
         _ => LISTING_BYTES,
     }
 }
@@ -79,7 +85,7 @@ fn room(random: &mut Random) -> usize {
 /// The memories of a recording: often zeros, because stored bytes stand out there.
 fn lent(random: &mut Random) -> Lent {
     let fill = random.below(1 << 16) * random.below(2);
-    Lent::new(rdram_length(random), fill)
+    Lent::new(rdram_length(random), fill.into())
 }
 
 /// The state is as at power-up.
@@ -87,44 +93,50 @@ fn power_up(_: &mut Random, _: usize) -> State {
     ofersky::power_up()
 }
 
-/// Makes traffic of so many scenes at most, from a state.
-fn make(random: &mut Random, state: &State, lent: &Lent, scenes: u64) -> (Vec<u8>, Watch) {
-    let scenes = 1 + random.below(scenes);
-    let watch = Watch::new(to_model(state), lent.bytes());
-    let mut traffic = Traffic::new(random, watch);
-    for _ in 0..scenes {
-        traffic.scene();
+/// Makes traffic of so many sequences at most, from a state.
+fn make(
+    random: &mut Random,
+    state: &State,
+    lent: &Lent,
+    sequences: u32,
+) -> (Vec<u8>, CountingReplay) {
+    let sequences = 1 + random.below(sequences);
+    let replay = CountingReplay::new(to_model(state), lent.bytes());
+    let mut traffic = Traffic::new(random, replay);
+    for _ in 0..sequences {
+        traffic.sequence();
     }
-    (traffic.bytes, traffic.watch)
+    (traffic.bytes, traffic.replay)
 }
 
-/// The turn-by-turn way through the records must end where the replay ends: else its counts mean nothing.
-fn agrees(seen: &Seen, watch: &Watch) {
-    assert_eq!(seen.outcome.state, from_model(&watch.state));
+/// The turn-by-turn way through the records must end where the replay ends: else its counts mean
+/// nothing.
+fn agrees(seen: &Observed, replay: &CountingReplay) {
+    assert_eq!(seen.outcome.state, from_model(&replay.state));
     let [rdram, dmem, imem, ..] = &seen.bytes;
-    assert!((rdram, dmem, imem) == (&watch.rdram, &watch.dmem, &watch.imem));
-    assert!(!watch.unforeseen);
+    assert!((rdram, dmem, imem) == (&replay.rdram, &replay.dmem, &replay.imem));
+    assert!(!replay.unforeseen);
 }
 
 /// Compares traffic from states of one kind, and counts its events.
 fn compare_traffic(
     seed: u64,
     recordings: usize,
-    scenes: u64,
+    sequences: u32,
     start: fn(&mut Random, usize) -> State,
 ) -> Totals {
-    let mut random = Random::of_test(seed);
+    let mut random = random_of_test(seed);
     let mut comparison = Comparison::new("recording");
     for _ in 0..recordings {
         let lent = lent(&mut random);
         let state = start(&mut random, lent.rdram);
-        let (recording, watch) = make(&mut random, &state, &lent, scenes);
+        let (recording, replay) = make(&mut random, &state, &lent, sequences);
         let good = recording.len() <= LONGEST;
         let out = room(&mut random);
         let seen = check(&mut comparison, &case(state, lent, recording, out));
         if good {
-            agrees(&seen, &watch);
-            comparison.totals.events.add(&watch.events);
+            agrees(&seen, &replay);
+            comparison.totals.events.add(&replay.events);
         }
     }
     comparison.totals
@@ -139,10 +151,10 @@ fn expect_traffic(totals: &Totals, least: u64) {
     }
     totals.expect_mirrors("replay", 10_000);
     totals.expect_verdicts("replay", [2_000, 2_000, 2_000, 0]);
-    totals.expect_found(Found {
+    totals.expect_found(FindingCounts {
         later: 1_000,
         several: 500,
-        ..Found::default()
+        ..FindingCounts::default()
     });
 }
 
@@ -161,7 +173,8 @@ fn traffic_from_any_state() {
     done("traffic from sound states", &totals);
 }
 
-/// The records of one list: a command with this first byte, whose later words look like SYNC_FULL, then two short ones.
+/// The records of one list: a command with this first byte, whose later words look like SYNC_FULL,
+/// then two short ones.
 fn command_list(random: &mut Random, first: u8, xbus: bool) -> Vec<Record> {
     let start = random.pick(&[0, 8, 0x7F0, 0xF80]);
     let base = if xbus { 0x0400_0000 } else { 0 };
@@ -177,7 +190,7 @@ fn command_list(random: &mut Random, first: u8, xbus: bool) -> Vec<Record> {
     for (i, byte) in words.iter().enumerate() {
         let at = start + 8 * i as u32;
         let address = base + if xbus { at % 0x1000 } else { at };
-        let word = u64::from(*byte) << 56 | random.number() >> 8;
+        let word = u64::from(*byte) << 56 | random.next_u64() >> 8;
         records.push(Record::Store { address, word });
     }
     let end = start + 8 * words.len() as u32;
@@ -187,9 +200,10 @@ fn command_list(random: &mut Random, first: u8, xbus: bool) -> Vec<Record> {
     records
 }
 
-/// Runs through a list: word by word, in one, or cut at a random place, with the status read after each.
+/// Runs through a list: word by word, in one, or cut at a random place, with the status read
+/// after each.
 fn list_runs(random: &mut Random, style: usize) -> Vec<Record> {
-    let part = random.below(24) as u32;
+    let part = random.below(24);
     let budgets = match style {
         0 => vec![1; 26],
         1 => vec![u32::MAX],
@@ -210,7 +224,7 @@ fn list_runs(random: &mut Random, style: usize) -> Vec<Record> {
 
 #[test]
 fn drawing_commands() {
-    let mut random = Random::of_test(4);
+    let mut random = random_of_test(4);
     let mut comparison = Comparison::new("recording");
     for first in 0..=255 {
         for (xbus, style) in (0..8).map(|i| (i % 2 == 1, i / 2)) {
@@ -218,13 +232,13 @@ fn drawing_commands() {
             records.extend(list_runs(&mut random, style));
             let lent = Lent::new(random.pick(&[4_096, 32_768, 0x7F8]), 0);
             let state = ofersky::power_up();
-            let mut watch = Watch::new(to_model(&state), lent.bytes());
-            records.iter().for_each(|record| watch.record(*record));
+            let mut replay = CountingReplay::new(to_model(&state), lent.bytes());
+            records.iter().for_each(|record| replay.record(*record));
             let recording = records.iter().flat_map(Record::encode).collect();
             let case = case(state, lent, recording, LISTING_BYTES);
             let seen = check(&mut comparison, &case);
-            agrees(&seen, &watch);
-            comparison.totals.events.add(&watch.events);
+            agrees(&seen, &replay);
+            comparison.totals.events.add(&replay.events);
         }
     }
     let totals = comparison.totals;
@@ -235,7 +249,7 @@ fn drawing_commands() {
     done("drawing commands", &totals);
 }
 
-/// Some recordings of a few records, which cuts and flips then damage.
+/// A recording of a few records, for cuts and other changes.
 fn short(random: &mut Random, lent: &Lent) -> Vec<u8> {
     let state = ofersky::power_up();
     let (mut recording, _) = make(random, &state, lent, 2);
@@ -250,44 +264,44 @@ fn short(random: &mut Random, lent: &Lent) -> Vec<u8> {
 }
 
 #[test]
-fn damaged_recordings() {
-    let mut random = Random::of_test(5);
+fn invalid_recordings() {
+    let mut random = random_of_test(5);
     let mut comparison = Comparison::new("recording");
     let state = ofersky::power_up();
     for round in 0..220 {
         let lent = Lent::new(random.pick(&[0, 8, 4_096]), round & 1);
         let good = short(&mut random, &lent);
-        let mut damaged = vec![bad_kind(&mut random, &good)];
+        let mut invalid = vec![with_bad_kind(&mut random, &good)];
         for _ in 0..4 {
-            damaged.extend(bad_address(&mut random, &good, lent.rdram));
-            damaged.push(flipped(&mut random, &good));
-            damaged.push(bad_kind(&mut random, &good));
+            invalid.extend(with_bad_address(&mut random, &good, lent.rdram));
+            invalid.push(with_changed_bytes(&mut random, &good));
+            invalid.push(with_bad_kind(&mut random, &good));
         }
         if round % 11 == 0 {
             // Every cut, also of a recording with a bad address: the cut is told first.
-            let bad = bad_address(&mut random, &good, lent.rdram);
+            let bad = with_bad_address(&mut random, &good, lent.rdram);
             for whole in [Some(good), bad].into_iter().flatten() {
-                damaged.extend((0..whole.len()).map(|cut| whole[..cut].to_vec()));
+                invalid.extend((0..whole.len()).map(|cut| whole[..cut].to_vec()));
             }
         }
-        for recording in damaged {
+        for recording in invalid {
             let out = random.pick(&[LISTING_BYTES, 2_000, 20]);
             check(&mut comparison, &case(state, lent, recording, out));
         }
     }
     every_kind(&mut comparison);
     every_bad_address(&mut comparison);
-    expect_damage(&comparison.totals);
-    done("damaged recordings", &comparison.totals);
+    expect_invalid(&comparison.totals);
+    done("invalid recordings", &comparison.totals);
 }
 
 /// Every number of a record, at place 0 and later, and some that stop after a difference.
-fn expect_damage(totals: &Totals) {
+fn expect_invalid(totals: &Totals) {
     totals.expect_numbers("replay", &[0, 5, 6, 7, 8, 10], 200);
     totals.expect_places(&[5, 6, 7, 8, 10], 100, 200);
     totals.expect_misaligned("replay", 100);
     totals.expect_verdicts("replay", [20, 100, 200, 5_000]);
-    totals.expect_found(Found {
+    totals.expect_found(FindingCounts {
         stopped: 80,
         uncounted: 1_000,
         later: 30,
@@ -307,7 +321,8 @@ fn every_kind(comparison: &mut Comparison) {
     }
 }
 
-/// States with one clause broken, and every byte that is no flag in every flag; nothing else is wrong.
+/// States with one clause broken, and every byte that is no flag in every flag; nothing else is
+/// wrong.
 fn every_unsound_state(comparison: &mut Comparison, random: &mut Random) {
     let mut states = Vec::new();
     for clause in BREAKS {
@@ -332,7 +347,7 @@ fn every_unsound_state(comparison: &mut Comparison, random: &mut Random) {
 
 #[test]
 fn lengths_states_and_listings() {
-    let mut random = Random::of_test(6);
+    let mut random = random_of_test(6);
     let mut comparison = Comparison::new("recording");
     for _ in 0..3_000 {
         let lent = odd_lengths(&mut random);
@@ -344,11 +359,11 @@ fn lengths_states_and_listings() {
         let mut recording = short(&mut random, &Lent::new(4_096, 0));
         if random.once_in(10) {
             let length = random.pick(&[LONGEST - 1, LONGEST, LONGEST + 1, 20_000, 65_536]);
-            recording = exactly(&recording, length);
+            recording = of_length(&recording, length);
         }
         if random.once_in(3) {
             // A bad record, too: it plays no part where the replay is refused before the first one.
-            recording = bad_kind(&mut random, &recording);
+            recording = with_bad_kind(&mut random, &recording);
         }
         let out = room(&mut random);
         check(&mut comparison, &case(state, lent, recording, out));
@@ -361,7 +376,8 @@ fn lengths_states_and_listings() {
     done("lengths, states and listings", totals);
 }
 
-/// The addresses at the edges of the blocks, in each kind that has an address, after a record and in the first one; and cut, which is told first.
+/// The addresses at the edges of the blocks, in each kind that has an address, after a record and
+/// in the first one; and cut, which is told first.
 fn every_bad_address(comparison: &mut Comparison) {
     let mut replay = |recording: &[u8]| {
         let (state, lent) = (ofersky::power_up(), Lent::new(4_096, 1));
@@ -383,7 +399,8 @@ fn every_bad_address(comparison: &mut Comparison) {
     }
 }
 
-/// Every length of the buffer up to one byte more than a listing has, for some listings. Half of them stop.
+/// Every length of the buffer up to one byte more than a listing has, for some listings. Half of
+/// them stop.
 fn every_room(comparison: &mut Comparison, random: &mut Random) {
     let state = ofersky::power_up();
     for round in 0..6 {
@@ -400,8 +417,9 @@ fn every_room(comparison: &mut Comparison, random: &mut Random) {
     }
 }
 
-/// The transfer of 131,072 words, with another one of as many that waits, and one budget for both; a list over all of RDRAM.
-fn giant(length: u32, first: u32, second: u32, run: Record) -> Vec<u8> {
+/// The transfer of 131,072 words, with another one of as many that waits, and one budget for both;
+/// a list over all of RDRAM.
+fn longest_transfers(length: u32, first: u32, second: u32, run: Record) -> Vec<u8> {
     let values = [(first, length), (second, length), (DP_END, ADDRESS_BITS)];
     let mut records = values
         .map(|(address, value)| Record::Write { address, value })
@@ -440,7 +458,8 @@ fn long_listing(reads: usize, checks: usize) -> Vec<u8> {
     .concat()
 }
 
-/// The longest listings of a replay that ends and of one that stops: as few checks as fill up the recording, without and with a byte that is no kind.
+/// The longest listings of a replay that ends and of one that stops: as few checks as fill up the
+/// recording, without and with a byte that is no kind.
 fn longest_listings() -> [Vec<u8>; 2] {
     let mut stops = long_listing(1_813, 5);
     stops.push(0);
@@ -450,21 +469,21 @@ fn longest_listings() -> [Vec<u8>; 2] {
 }
 
 #[test]
-fn giants() {
+fn longest_transfers_and_listings() {
     let mut comparison = Comparison::new("recording");
     let state = ofersky::power_up();
     for (length, rdram) in [(u32::MAX, 32_768), (0x000F_FFF8, 0), (0xFF8F_FFF8, 1 << 21)] {
         for (first, second) in [(SP_RDLEN, SP_WRLEN), (SP_WRLEN, SP_RDLEN)] {
             for run in WHOLE_RUNS {
                 let lent = Lent::new(rdram, 9);
-                let recording = giant(length, first, second, run);
+                let recording = longest_transfers(length, first, second, run);
                 check(&mut comparison, &case(state, lent, recording, 4_000));
             }
         }
     }
     for rdram in [LONGEST_RDRAM, LONGEST_RDRAM + 1, LONGEST_RDRAM + 8] {
         let lent = Lent::new(rdram, 5);
-        let recording = giant(0x0F, SP_RDLEN, SP_WRLEN, WHOLE_RUNS[1]);
+        let recording = longest_transfers(0x0F, SP_RDLEN, SP_WRLEN, WHOLE_RUNS[1]);
         check(&mut comparison, &case(state, lent, recording, 4_000));
     }
     for (recording, written) in longest_listings().into_iter().zip([69_188, 69_191]) {
@@ -475,5 +494,5 @@ fn giants() {
             check(&mut comparison, &of_room(out));
         }
     }
-    done("giants", &comparison.totals);
+    done("longest transfers and listings", &comparison.totals);
 }

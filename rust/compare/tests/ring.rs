@@ -1,25 +1,31 @@
-//! The ring that holds the queued words: no answer depends on its head and on the slots without a word, and each call moves it as the header says.
+//! The ring that holds the queued words: no answer depends on its head and on the slots without a
+//! word, and each call moves it as the header says.
 
-use compare::bursts::{burst, good_pairs};
-use compare::call::{Call, Case};
-use compare::cases::{call_of, good_lengths, odd_lengths, ON_A_STATE, ON_MEMORY};
+use compare::cases::bursts::{burst, good_pairs};
+use compare::cases::calls::{call_of, ON_A_STATE, ON_MEMORY};
+use compare::cases::lengths::{good_lengths, odd_lengths};
+use compare::cases::seed::random_of_test;
+use compare::cases::states::{both_busy, sound};
+use compare::cases::traffic::Traffic;
+use compare::cases::unsound_states::unsound;
 use compare::comparison::Comparison;
-use compare::fields::to_model;
-use compare::memory::Lent;
-use compare::random::Random;
-use compare::ring::{turned, words};
-use compare::seen::{library, library_with_ring, Seen};
-use compare::states::{both_busy, sound, unsound};
-use compare::traffic::Traffic;
-use compare::watch::Watch;
+use compare::coverage::counting_replay::CountingReplay;
+use compare::data::call::{Call, Case};
+use compare::data::memory::Lent;
+use compare::data::ring::{rotated, words};
+use compare::data::state_fields::to_model;
+use compare::sides::library::{library, library_with_ring};
+use compare::sides::observed::Observed;
 use model::machine::DP_STATUS;
 use ofersky::{State, LISTING_BYTES, QUEUE_WORDS};
+use random::Random;
 
-/// The library on the same queued words in other slots. Where it gives the state back as handed in, that is told by the case's own.
-fn in_other_slots(case: &Case) -> Seen {
+/// The library on the same queued words in other slots. Where it gives the state back as handed in,
+/// that is told by the case's own.
+fn in_other_slots(case: &Case) -> Observed {
     // The same ones each time that a case is asked.
     let seed = case.lent.fill + u64::from(case.state.dp.clock) + u64::from(case.state.dp.head);
-    let state = turned(&case.state, &mut Random::new(seed));
+    let state = rotated(&case.state, &mut Random::new(seed));
     let other = Case {
         state,
         ..case.clone()
@@ -42,7 +48,7 @@ fn any_state(random: &mut Random, rdram: usize) -> State {
 
 #[test]
 fn calls_in_other_slots() {
-    let mut random = Random::of_test(81);
+    let mut random = random_of_test(81);
     let mut comparison = Comparison::of(library, in_other_slots, "call");
     for _ in 0..3_000 {
         let lent = match random.below(6) {
@@ -67,14 +73,14 @@ fn calls_in_other_slots() {
 
 #[test]
 fn replays_in_other_slots() {
-    let mut random = Random::of_test(82);
+    let mut random = random_of_test(82);
     let mut comparison = Comparison::of(library, in_other_slots, "recording");
     for _ in 0..1_500 {
-        let lent = Lent::new(4_096, random.below(1 << 16));
+        let lent = Lent::new(4_096, random.below(1 << 16).into());
         let state = sound(&mut random, lent.rdram);
-        let watch = Watch::new(to_model(&state), lent.bytes());
-        let mut traffic = Traffic::new(&mut random, watch);
-        (0..4).for_each(|_| traffic.scene());
+        let replay = CountingReplay::new(to_model(&state), lent.bytes());
+        let mut traffic = Traffic::new(&mut random, replay);
+        (0..4).for_each(|_| traffic.sequence());
         let (recording, out) = (traffic.bytes, LISTING_BYTES);
         let call = Call::Replay { recording, out };
         comparison.check(&Case { state, lent, call });
@@ -83,8 +89,9 @@ fn replays_in_other_slots() {
     println!("replays in other slots: {}", totals.recordings_line());
 }
 
-/// The ring after a single call that is accepted, or a burst that stops at a pair, by the words of the header. The queued words were compared already.
-fn ring_after(case: &Case, seen: &Seen) -> ([u64; QUEUE_WORDS], u8) {
+/// The ring after a single call that is accepted, or a burst that stops at a pair, by the words of
+/// the header. The queued words were compared already.
+fn ring_after(case: &Case, seen: &Observed) -> ([u64; QUEUE_WORDS], u8) {
     let dp = &case.state.dp;
     let (mut queue, mut head) = (case.state.queue, dp.head);
     match (&case.call, seen.outcome.answer.count) {
@@ -98,33 +105,35 @@ fn ring_after(case: &Case, seen: &Seen) -> ([u64; QUEUE_WORDS], u8) {
     (queue, head)
 }
 
-/// A call other than a run, of those that give a state; often a write that sets FLUSH, alone or in a burst.
+/// A call other than a run, of those that give a state; often a write that sets FLUSH, alone or in
+/// a burst.
 fn single_call(random: &mut Random) -> Case {
-    let lent = Lent::new(4_096, random.below(1 << 16));
+    let lent = Lent::new(4_096, random.below(1 << 16).into());
     let state = sound(random, lent.rdram);
-    let (address, value) = (DP_STATUS, random.word() & !0x10 | 0x20);
+    let (address, value) = (DP_STATUS, random.next_u32() & !0x10 | 0x20);
     let call = match random.below(7) {
         0 => Call::DpTurn,
         1 => Call::ConsumerTurn,
         2 => Call::Write { address, value },
         3 => {
             let mut pairs = good_pairs(random, 4, lent.rdram);
-            pairs[random.place(4)] = (address, value);
+            pairs[random.index(4)] = (address, value);
             burst(&pairs)
         }
         _ => {
             // Up to the SP turn and the row, which are the first two on memory.
-            let kind = 1 + random.place(ON_MEMORY + 1);
+            let kind = 1 + random.index(ON_MEMORY + 1);
             call_of(random, kind, &state, lent.rdram)
         }
     };
     Case { state, lent, call }
 }
 
-/// A fetch fills the slot behind the last word, a consumer turn moves the head on, and no other call touches a slot or the head: not even FLUSH.
+/// A fetch fills the slot behind the last word, a consumer turn moves the head on, and no other
+/// call touches a slot or the head: not even FLUSH.
 #[test]
 fn slots_of_single_calls() {
-    let mut random = Random::of_test(83);
+    let mut random = random_of_test(83);
     let (mut flushed, mut free) = ([0; 2], 0);
     for _ in 0..20_000 {
         let case = single_call(&mut random);
@@ -150,7 +159,7 @@ fn slots_of_single_calls() {
 /// The wrapper gives the queued words of every state, also of one that is not sound.
 #[test]
 fn queued_words_in_order() {
-    let mut random = Random::of_test(84);
+    let mut random = random_of_test(84);
     for i in 0..20_000u32 {
         let mut state = sound(&mut random, 4_096);
         if i % 2 == 0 {

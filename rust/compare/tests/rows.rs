@@ -1,15 +1,21 @@
-//! Rows in one call, by the library and by the model; and by the library's own single turns and its own run, with the ring slot by slot.
+//! Rows in one call, by the library and by the model; and by the library's own single turns
+//! and its own run, with the ring slot by slot.
 
-use compare::call::{Call, Case};
-use compare::cases::good_lengths;
+use compare::cases::lengths::good_lengths;
+use compare::cases::rows::{busy, wait, Edges};
+use compare::cases::seed::random_of_test;
+use compare::cases::states::sound;
+use compare::cases::unsound_states::{break_clause, BREAKS};
 use compare::comparison::Comparison;
-use compare::memory::{Lent, LONGEST_RDRAM};
-use compare::random::Random;
-use compare::rows::{busy, by_run, by_turns, row_words, wait, Edges, BANK_WORDS};
-use compare::seen::{library_with_ring, next_state, Seen};
-use compare::states::{break_clause, sound, BREAKS};
-use compare::totals::Sum;
+use compare::coverage::totals::Sum;
+use compare::data::call::{Call, Case};
+use compare::data::memory::{Lent, BANK_WORDS, LONGEST_RDRAM};
+use compare::data::words_left::row_words;
+use compare::sides::composed_calls::{row_by_run, row_by_turns};
+use compare::sides::library::library_with_ring;
+use compare::sides::observed::{next_state, Observed};
 use ofersky::{SpState, State};
+use random::Random;
 
 /// What the seven tests compared.
 static ALL: Sum = Sum::of_tests(7);
@@ -21,13 +27,13 @@ impl Sides {
     fn new() -> Sides {
         Sides([
             Comparison::new("call"),
-            Comparison::of(by_turns, library_with_ring, "call"),
-            Comparison::of(by_run, library_with_ring, "call"),
+            Comparison::of(row_by_turns, library_with_ring, "call"),
+            Comparison::of(row_by_run, library_with_ring, "call"),
         ])
     }
 
     /// Gives what the model gave.
-    fn check(&mut self, case: &Case) -> Seen {
+    fn check(&mut self, case: &Case) -> Observed {
         let Sides([model, turns, run]) = self;
         let seen = model.check(case);
         turns.check(case);
@@ -36,7 +42,7 @@ impl Sides {
     }
 
     /// A row that is accepted: its words are all counted, and there is no value.
-    fn accepted(&mut self, case: &Case) -> Seen {
+    fn accepted(&mut self, case: &Case) -> Observed {
         let seen = self.check(case);
         let answer = seen.outcome.answer;
         let given = (answer.number, answer.value, answer.count);
@@ -76,7 +82,8 @@ fn edges_of(words: u32) -> impl Iterator<Item = Option<u32>> + Clone {
     (1..words).map(Some).chain([None])
 }
 
-/// A row that ends the transfer, with nothing that waits or with a transfer of either direction, and one that has a row after it.
+/// A row that ends the transfer, with nothing that waits or with a transfer of either direction,
+/// and one that has a row after it.
 const ENDS: [(u32, Option<u8>); 5] = [
     (0, None),
     (0, Some(0)),
@@ -85,7 +92,8 @@ const ENDS: [(u32, Option<u8>); 5] = [
     (1, Some(1)),
 ];
 
-/// A row of so many words at these edges in both banks and directions, before each end; whole, and with two words moved already.
+/// A row of so many words at these edges in both banks and directions, before each end; whole, and
+/// with two words moved already.
 fn at_edges(sides: &mut Sides, words: u32, edges: Edges) {
     for (storing, bank) in [(0, 0), (0, 0x1000), (1, 0), (1, 0x1000)] {
         for (i, (count, waiting)) in (0..).zip(ENDS) {
@@ -111,7 +119,8 @@ fn edges_found(sp: &SpState, words: u32, rdram: usize) -> Edges {
     }
 }
 
-/// Each edge before each word, with each place of the others: so every two and all three come in each order, and together.
+/// Each edge before each word, with each place of the others: so every two and all three come in
+/// each order, and together.
 #[test]
 fn edges_in_each_order() {
     let mut sides = Sides::new();
@@ -130,7 +139,8 @@ fn edges_in_each_order() {
     sides.done("edges in each order");
 }
 
-/// The lent length just below the top of RDRAM, or there, with the end of the bank before, between, at and after them. These are few, because each takes long.
+/// The lent length just below the top of RDRAM, or there, with the end of the bank before, between,
+/// at and after them. These are few, because each takes long.
 #[test]
 fn edges_of_the_longest_rdram() {
     let mut sides = Sides::new();
@@ -210,14 +220,15 @@ fn whole_banks_from_each_offset() {
 /// A transfer as its registers start it, and one that waits.
 fn started(random: &mut Random, words: u32) -> State {
     let mut state = ofersky::power_up();
-    let [first, second] = [0x0404_0008, 0x0404_000C].map(|register| register ^ random.word() & 4);
-    let near_end = |random: &mut Random| 0x1000 - 8 * random.below(40) as u32;
+    let [first, second] =
+        [0x0404_0008, 0x0404_000C].map(|register| register ^ random.next_u32() & 4);
+    let near_end = |random: &mut Random| 0x1000 - 8 * random.below(40);
     let writes = [
-        (0x0404_0000, near_end(random) | random.word() & 0x1000),
+        (0x0404_0000, near_end(random) | random.next_u32() & 0x1000),
         (0x0404_0004, near_end(random)),
         (first, 0x0180_2000 | (8 * words - 1)),
         (0x0404_0000, near_end(random)),
-        (0x0404_0004, 0u32.wrapping_sub(8 * random.below(40) as u32)),
+        (0x0404_0004, 0u32.wrapping_sub(8 * random.below(40))),
         (second, 0x0080_1000 | (8 * words - 1)),
     ];
     for (address, value) in writes {
@@ -228,15 +239,19 @@ fn started(random: &mut Random, words: u32) -> State {
     state
 }
 
-/// After each number of turns from none to all words of a row, rows up to the end of both transfers, and two more.
+/// After each number of turns from none to all words of a row, rows up to the end of both
+/// transfers, and two more.
 #[test]
 fn rows_begun_in_their_middle() {
-    let mut random = Random::of_test(91);
+    let mut random = random_of_test(91);
     let mut sides = Sides::new();
     let mut middle = 0;
     for words in [1, 2, 3, 8, 16, 17, 40] {
         for turns in 0..=words {
-            let lent = Lent::new(4_096 - 8 * random.place(40), 1 + random.below(1 << 16));
+            let lent = Lent::new(
+                4_096 - 8 * random.index(40),
+                u64::from(1 + random.below(1 << 16)),
+            );
             let mut state = started(&mut random, words);
             let [mut rdram, mut dmem, mut imem] = lent.bytes();
             for _ in 0..turns {
@@ -261,7 +276,7 @@ fn rows_begun_in_their_middle() {
 
 #[test]
 fn any_rows() {
-    let mut random = Random::of_test(92);
+    let mut random = random_of_test(92);
     let mut sides = Sides::new();
     for _ in 0..8_000 {
         let lent = good_lengths(&mut random);
@@ -280,10 +295,11 @@ fn any_rows() {
     sides.done("any rows");
 }
 
-/// Each wrong length and each broken clause alone and before each later one, busy or idle. Nothing is left changed.
+/// Each wrong length and each broken clause alone and before each later one, busy or idle. Nothing
+/// is left changed.
 #[test]
 fn refused_rows() {
-    let mut random = Random::of_test(93);
+    let mut random = random_of_test(93);
     let mut sides = Sides::new();
     for round in 0..6_400 {
         let wrong = |bit: u32| round >> bit & 1 == 1;

@@ -8,8 +8,8 @@ use std::path::{Path, PathBuf};
 const RDRAM: usize = 32_768;
 const BANK: usize = 4_096;
 
-/// The verdict of each recording, counted in its listing: the `R` and `L` lines, and those with `expected`. The index and the place are those of the
-/// first record with such a line.
+/// The verdict of each recording, counted in its listing: the `R` and `L` lines, and those with
+/// `expected`. The index and the place are those of the first record with such a line.
 const VERDICTS: [(&str, Verdict); 42] = [
     ("bank_wrap", passed(13)),
     ("double_buffer", passed(16)),

@@ -1,23 +1,27 @@
-//! The verdicts of replays: over structs that no replay gives, and over recordings whose wrong expectations are known.
+//! The verdicts of replays: over structs that no replay gives, and over recordings whose wrong
+//! expectations are known.
 
-use compare::call::{Call, Case};
+use compare::cases::invalid_recordings::{with_bad_address, with_bad_kind};
+use compare::cases::replayed::any_replayed;
+use compare::cases::seed::random_of_test;
+use compare::cases::states::sound;
+use compare::cases::traffic::Traffic;
+use compare::cases::unsound_states::unsound;
 use compare::comparison::Comparison;
-use compare::damage::{bad_address, bad_kind, LONGEST};
-use compare::fields::to_model;
-use compare::memory::Lent;
-use compare::random::Random;
-use compare::records::pieces;
-use compare::seen::Seen;
-use compare::states::{sound, unsound};
-use compare::totals::Found;
-use compare::traffic::{Traffic, NEVER};
-use compare::verdicts::{any_replayed, compared, findings_of};
-use compare::watch::Watch;
+use compare::coverage::counting_replay::CountingReplay;
+use compare::coverage::findings::FindingCounts;
+use compare::data::call::{Call, Case};
+use compare::data::findings::{compared, findings_of};
+use compare::data::memory::Lent;
+use compare::data::recording::{pieces, LONGEST};
+use compare::data::state_fields::to_model;
+use compare::sides::observed::Observed;
 use ofersky::{Findings, Replayed, State, Verdict, LISTING_BYTES};
+use random::Random;
 use std::ops::Range;
 
 /// The verdict of a struct, on both sides.
-fn judge(comparison: &mut Comparison, state: State, replayed: Replayed) -> Seen {
+fn judge(comparison: &mut Comparison, state: State, replayed: Replayed) -> Observed {
     let lent = Lent::new(0, 0);
     let replayed = Box::new(replayed);
     let call = Call::Verdict { replayed };
@@ -32,7 +36,7 @@ fn numbers() -> Vec<u32> {
 
 #[test]
 fn structs_that_no_replay_gives() {
-    let mut random = Random::of_test(61);
+    let mut random = random_of_test(61);
     let mut comparison = Comparison::new("call");
     let counts = [0, 1, 2, 255, 256, 1 << 16, 1 << 31, u32::MAX];
     for number in numbers() {
@@ -69,11 +73,11 @@ fn structs_that_no_replay_gives() {
 
 /// A recording of which every expectation is right, from this state.
 fn right(random: &mut Random, state: &State, lent: &Lent) -> Vec<u8> {
-    let scenes = 1 + random.below(8);
-    let mut traffic = Traffic::new(random, Watch::new(to_model(state), lent.bytes()));
-    traffic.wrong = NEVER;
-    for _ in 0..scenes {
-        traffic.scene();
+    let sequences = 1 + random.below(8);
+    let mut traffic = Traffic::new(random, CountingReplay::new(to_model(state), lent.bytes()));
+    traffic.wrong = None;
+    for _ in 0..sequences {
+        traffic.sequence();
     }
     let mut bytes = traffic.bytes;
     let ends = pieces(&bytes).into_iter().map(|piece| piece.end);
@@ -82,11 +86,12 @@ fn right(random: &mut Random, state: &State, lent: &Lent) -> Vec<u8> {
     bytes
 }
 
-/// Changes a bit of the expectations of some reads and checks: of none, one, some or all. Says of which.
+/// Changes a bit of the expectations of some reads and checks: of none, one, some or all. Says of
+/// which.
 fn make_wrong(random: &mut Random, recording: &mut [u8]) -> Vec<bool> {
     let compared = compared(recording, usize::MAX);
     let style = random.below(4);
-    let one = random.place(compared.len().max(1));
+    let one = random.index(compared.len().max(1));
     let mut wrong = Vec::new();
     for (i, (_, piece)) in compared.into_iter().enumerate() {
         let this = match style {
@@ -97,7 +102,7 @@ fn make_wrong(random: &mut Random, recording: &mut [u8]) -> Vec<bool> {
         };
         if this {
             let expected = piece.start + 5..piece.end;
-            recording[expected.start + random.place(expected.len())] ^= 1 << random.below(8);
+            recording[expected.start + random.index(expected.len())] ^= 1 << random.below(8);
         }
         wrong.push(this);
     }
@@ -110,16 +115,16 @@ fn stopped(random: &mut Random, recording: Vec<u8>) -> (Vec<u8>, usize) {
     if recording.is_empty() || random.once_in(2) {
         return (recording, pieces.len());
     }
-    let at = random.place(recording.len());
-    let damaged = match random.below(3) {
-        0 => Some(bad_kind(random, &recording)),
-        1 => bad_address(random, &recording, 4_096),
+    let at = random.index(recording.len());
+    let changed = match random.below(3) {
+        0 => Some(with_bad_kind(random, &recording)),
+        1 => with_bad_address(random, &recording, 4_096),
         _ => Some(recording[..at].to_vec()),
     };
-    let damaged = damaged.unwrap_or_else(|| recording.clone());
-    let same = |piece: &Range<usize>| damaged.get(piece.clone()) == recording.get(piece.clone());
+    let changed = changed.unwrap_or_else(|| recording.clone());
+    let same = |piece: &Range<usize>| changed.get(piece.clone()) == recording.get(piece.clone());
     let records = pieces.iter().take_while(|piece| same(piece)).count();
-    (damaged, records)
+    (changed, records)
 }
 
 /// The verdict by its rule, of a replay that began.
@@ -149,10 +154,10 @@ fn expected(number: u32, found: Findings) -> Verdict {
 
 #[test]
 fn recordings_with_known_expectations() {
-    let mut random = Random::of_test(62);
+    let mut random = random_of_test(62);
     let mut comparison = Comparison::new("recording");
     for _ in 0..15_000 {
-        let lent = Lent::new(4_096, random.below(1 << 16));
+        let lent = Lent::new(4_096, random.below(1 << 16).into());
         let state = match random.below(2) {
             0 => ofersky::power_up(),
             _ => sound(&mut random, lent.rdram),
@@ -171,7 +176,7 @@ fn recordings_with_known_expectations() {
     }
     let totals = &comparison.totals;
     totals.expect_verdicts("replay", [1_000, 2_000, 1_000, 4_000]);
-    totals.expect_found(Found {
+    totals.expect_found(FindingCounts {
         stopped: 1_000,
         uncounted: 300,
         later: 800,

@@ -1,17 +1,19 @@
-//! Records written by the library and by the model: one by one, read back, written again, and appended to whole recordings.
+//! Records written by the library and by the model: one by one, read back, written again, and
+//! appended to whole recordings.
 
-use compare::call::{Call, Case};
+use compare::cases::addresses::edge_addresses;
+use compare::cases::invalid_recordings::of_length;
+use compare::cases::records::{any_record, buffer_length, good_record, known_kind, place_for};
+use compare::cases::seed::random_of_test;
+use compare::cases::traffic::sequences;
 use compare::comparison::Comparison;
-use compare::damage::{exactly, LONGEST};
-use compare::items::{any_item, buffer_length, good_item, known_kind, place_for};
-use compare::memory::{filled, Lent};
-use compare::random::Random;
-use compare::records::record_length;
-use compare::seen::Seen;
-use compare::totals::{Sum, Totals};
-use compare::traffic::scenes;
-use compare::values::edge_addresses;
+use compare::coverage::totals::{Sum, Totals};
+use compare::data::call::{Call, Case};
+use compare::data::memory::{filled, Lent};
+use compare::data::recording::{record_length, LONGEST};
+use compare::sides::observed::Observed;
 use ofersky::{Reading, Record, LISTING_BYTES};
+use random::Random;
 
 /// The number of a record that does not fit.
 const NO_ROOM: u32 = 14;
@@ -28,7 +30,8 @@ fn done(test: &str, totals: &Totals) {
     }
 }
 
-/// Cases at the end of the room, in a buffer that ends there and in one that is longer than a recording may be.
+/// Cases at the end of the room, in a buffer that ends there and in one that is longer than a
+/// recording may be.
 #[derive(Clone, Copy, Debug, Default)]
 struct Edge {
     /// Records that end with the room.
@@ -57,23 +60,23 @@ impl Writer {
     }
 
     /// Makes a call on both sides. The bytes that it is lent stand at another alignment each time.
-    fn check(&mut self, call: Call) -> Seen {
+    fn check(&mut self, call: Call) -> Observed {
         let lent = Lent::new(0, self.comparison.totals.compared);
         let state = ofersky::power_up();
         self.comparison.check(&Case { state, lent, call })
     }
 
     /// Writes a record on both sides; where it is written, both sides read it back.
-    fn write(&mut self, item: Record, before: &[u8], place: usize) -> Seen {
+    fn write(&mut self, record: Record, before: &[u8], place: usize) -> Observed {
         let buffer = before.to_vec();
         let seen = self.check(Call::WriteRecord {
-            item,
+            record,
             buffer,
             place,
         });
-        self.count(item.kind, before.len(), place, seen.number());
+        self.count(record.kind, before.len(), place, seen.number());
         if seen.number() == 0 {
-            self.read_back(item, before, place, &seen);
+            self.read_back(record, before, place, &seen);
         }
         seen
     }
@@ -99,14 +102,15 @@ impl Writer {
         assert!(written.iter().all(|seen| *seen >= least), "{written:?}");
     }
 
-    /// No byte beside the record has changed, and the reader finds its fields and the place after it.
-    fn read_back(&mut self, item: Record, before: &[u8], place: usize, seen: &Seen) {
+    /// No byte beside the record has changed, and the reader finds its fields and the place after
+    /// it.
+    fn read_back(&mut self, record: Record, before: &[u8], place: usize, seen: &Observed) {
         let (after, buffer) = written(seen);
         assert!(buffer[..place] == before[..place] && buffer[after..] == before[after..]);
         let recording = buffer[..after].to_vec();
         let read = self.check(Call::ReadRecord { recording, place });
         let expected = Reading {
-            item: fields(item),
+            item: fields(record),
             place: after,
             number: 0,
         };
@@ -115,35 +119,35 @@ impl Writer {
 }
 
 /// The place after a record that was written, and the buffer.
-fn written(seen: &Seen) -> (usize, &[u8]) {
+fn written(seen: &Observed) -> (usize, &[u8]) {
     (seen.outcome.answer.value as usize, &seen.bytes[3])
 }
 
 /// A record with zeros for all that its kind does not have.
-fn fields(item: Record) -> Record {
-    let (value, address) = match item.kind {
-        1 | 2 => (item.value & 0xFFFF_FFFF, item.address),
-        3..=5 => (item.value & 0xFFFF_FFFF, 0),
+fn fields(record: Record) -> Record {
+    let (value, address) = match record.kind {
+        1 | 2 => (record.value & 0xFFFF_FFFF, record.address),
+        3..=5 => (record.value & 0xFFFF_FFFF, 0),
         6 | 7 => (0, 0),
-        10 => (item.value, 0),
-        _ => (item.value, item.address),
+        10 => (record.value, 0),
+        _ => (record.value, record.address),
     };
     Record {
         value,
         address,
-        ..item
+        ..record
     }
 }
 
 #[test]
 fn any_records() {
-    let mut random = Random::of_test(41);
+    let mut random = random_of_test(41);
     let mut writer = Writer::new();
     for _ in 0..120_000 {
-        let item = any_item(&mut random);
-        let buffer = filled(buffer_length(&mut random), random.below(1 << 16));
-        let place = place_for(&mut random, item.kind, buffer.len());
-        writer.write(item, &buffer, place);
+        let record = any_record(&mut random);
+        let buffer = filled(buffer_length(&mut random), random.below(1 << 16).into());
+        let place = place_for(&mut random, record.kind, buffer.len());
+        writer.write(record, &buffer, place);
     }
     let totals = &writer.comparison.totals;
     totals.expect_numbers("write_record", &[0, 5, 6, 7, 14], 4_000);
@@ -162,15 +166,15 @@ fn any_records() {
 
 #[test]
 fn places_kinds_and_addresses() {
-    let mut random = Random::of_test(42);
+    let mut random = random_of_test(42);
     let mut writer = Writer::new();
     let long = [LONGEST - 1, LONGEST, LONGEST + 1, LONGEST + 14, 70_000];
     for length in (0..30).chain(long) {
-        let buffer = filled(length, 1 + random.below(1 << 16));
+        let buffer = filled(length, u64::from(1 + random.below(1 << 16)));
         for place in places(length) {
             for kind in 1..=10 {
-                let item = good_item(&mut random, kind);
-                writer.write(item, &buffer, place);
+                let record = good_record(&mut random, kind);
+                writer.write(record, &buffer, place);
             }
         }
     }
@@ -182,7 +186,8 @@ fn places_kinds_and_addresses() {
     done("places, kinds and addresses", totals);
 }
 
-/// The first places, those near the ends of the buffer and of the longest recording, and those whose sum with a length passes the largest number.
+/// The first places, those near the ends of the buffer and of the longest recording, and those
+/// whose sum with a length passes the largest number.
 fn places(buffer: usize) -> Vec<usize> {
     let near = |end: usize| end.saturating_sub(14)..end + 3;
     let mut places: Vec<usize> = (0..16).chain(near(buffer)).chain(near(LONGEST)).collect();
@@ -198,13 +203,13 @@ fn every_kind(writer: &mut Writer, random: &mut Random) {
     for kind in 0..=255 {
         for (length, place) in [(13, 0), (40, 9), (0, 0), (12, 12), (13, usize::MAX)] {
             for address in [0, 0x0404_0000, 0x0404_0002, 0x0400_1FF8, 0x0400_0004] {
-                let value = random.number();
-                let item = Record {
+                let value = random.next_u64();
+                let record = Record {
                     value,
                     address,
                     kind,
                 };
-                writer.write(item, &filled(length, 1), place);
+                writer.write(record, &filled(length, 1), place);
             }
         }
     }
@@ -214,13 +219,13 @@ fn every_kind(writer: &mut Writer, random: &mut Random) {
 fn every_address(writer: &mut Writer, random: &mut Random) {
     for address in edge_addresses() {
         for kind in [1, 2, 3, 7, 8, 9, 10] {
-            let item = Record {
+            let record = Record {
                 address,
-                ..good_item(random, kind)
+                ..good_record(random, kind)
             };
             for place in [0, 1] {
                 let length = record_length(kind).expect("a known kind");
-                writer.write(item, &filled(length, 1), place);
+                writer.write(record, &filled(length, 1), place);
             }
         }
     }
@@ -228,13 +233,13 @@ fn every_address(writer: &mut Writer, random: &mut Random) {
 
 #[test]
 fn records_written_again() {
-    let mut random = Random::of_test(43);
+    let mut random = random_of_test(43);
     let mut writer = Writer::new();
     for _ in 0..1_500 {
-        let recording = scenes(&mut random, 60);
+        let recording = sequences(&mut random, 60);
         write_again(&mut writer, &recording);
     }
-    let recording = exactly(&scenes(&mut random, 2_000), LONGEST);
+    let recording = of_length(&sequences(&mut random, 2_000), LONGEST);
     write_again(&mut writer, &recording);
     writer.expect_kinds(50);
     done("records written again", &writer.comparison.totals);
@@ -258,14 +263,14 @@ fn write_again(writer: &mut Writer, recording: &[u8]) {
 
 #[test]
 fn appended_recordings() {
-    let mut random = Random::of_test(44);
+    let mut random = random_of_test(44);
     let mut writer = Writer::new();
     let mut replays = Comparison::new("recording");
     let mut full = 0;
     for round in 0..500 {
         let length = match round % 50 {
             0 => random.pick(&[LONGEST - 1, LONGEST, LONGEST + 1, 20_000]),
-            _ => random.place(500),
+            _ => random.index(500),
         };
         let most = random.pick(&[0, 1, 10, u32::MAX]);
         let (recording, count) = append(&mut writer, &mut random, length, most);
@@ -279,14 +284,15 @@ fn appended_recordings() {
     done("appended recordings", totals);
 }
 
-/// Appends records, at most so many; after one that does not fit, BREAKs fill up the room. Gives the recording and the number of its records.
+/// Appends records, at most so many; after one that does not fit, BREAKs fill up the room. Gives
+/// the recording and the number of its records.
 fn append(writer: &mut Writer, random: &mut Random, length: usize, most: u32) -> (Vec<u8>, u32) {
-    let mut buffer = filled(length, random.below(1 << 16));
+    let mut buffer = filled(length, random.below(1 << 16).into());
     let (mut place, mut count, mut refused) = (0, 0, 0);
     while count < most && refused < 2 {
         let kind = if refused == 0 { known_kind(random) } else { 6 };
-        let item = good_item(random, kind);
-        let seen = writer.write(item, &buffer, place);
+        let record = good_record(random, kind);
+        let seen = writer.write(record, &buffer, place);
         if seen.number() == NO_ROOM {
             refused += 1;
             continue;

@@ -1,6 +1,6 @@
-//! A plain model of two DMA engines over memory, written from the paper's
-//! rules alone. It is meant to be read beside the paper, so it follows the
-//! paper's order and words, and it is slow where slow is more obvious.
+//! A plain model of two DMA engines over memory, written from the rules
+//! alone. It is meant to be read beside the rules, so it follows their order
+//! and words, and it is slow where slow is more obvious.
 
 /// The engines, their registers, the two interrupt lines and the memories.
 pub mod machine;

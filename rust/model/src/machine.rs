@@ -1,6 +1,6 @@
 //! The SP engine, the DP engine, their sixteen registers and two lines.
 //!
-//! The public methods of `Machine` are the paper's calls on a state that is sound,
+//! The public methods of `Machine` are the rules' calls on a state that is sound,
 //! and memories and bursts of an allowed length.
 
 use std::collections::VecDeque;
@@ -347,7 +347,7 @@ impl Sp {
         found
     }
 
-    /// The part of the paper's "sound" that speaks of this engine.
+    /// The part of the rules' "sound" that speaks of this engine.
     pub fn is_sound(&self) -> bool {
         let lengths = self.len | self.row | self.skip;
         (self.spaddr_latch | self.spaddr) & !SP_ADDRESS_BITS == 0
@@ -476,7 +476,7 @@ impl Dp {
         }
     }
 
-    /// The part of the paper's "sound" that speaks of this engine.
+    /// The part of the rules' "sound" that speaks of this engine.
     pub fn is_sound(&self) -> bool {
         let addresses = self.start | self.end | self.current | self.limit;
         let counters =
@@ -630,7 +630,7 @@ impl<M: DerefMut<Target = [u8]>> Machine<M> {
         1
     }
 
-    /// What is left of the current row, by the paper's formula for its words. Gives
+    /// What is left of the current row, by the rules' formula for its words. Gives
     /// their number, 0 if the engine was idle. Words past the lent length count too.
     pub fn sp_row(&mut self) -> u32 {
         if !self.sp.busy {

@@ -453,7 +453,7 @@ fn the_sp_line_and_broke() {
     bench.lines(0, 0);
 }
 
-/// The paper's M2 and M3, and M6.
+/// The rules' M2 and M3, and M6.
 #[test]
 fn m2_m3_and_m6_by_bursts() {
     let mut bench = after(&[(SP_RAMADDR, 0x1000), (SP_RDLEN, 0x0200_B03F)]);

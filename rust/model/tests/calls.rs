@@ -1,4 +1,4 @@
-//! The single calls against the paper: its marked examples, every refusal in
+//! The single calls against the rules: its marked examples, every refusal in
 //! its case and order, the look, and what each call leaves as it was.
 
 mod common;

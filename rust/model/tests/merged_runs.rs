@@ -341,7 +341,7 @@ fn without_overlap_the_order_does_not_matter() {
     }
 }
 
-/// The run of the SP alone, as the paper says it.
+/// The run of the SP alone, as the rules say it.
 fn sp_alone(bench: &mut Bench, budget: u32) -> u32 {
     let mut moved = 0;
     while moved < budget && bench.state.sp.busy == 1 {
@@ -350,7 +350,7 @@ fn sp_alone(bench: &mut Bench, budget: u32) -> u32 {
     moved
 }
 
-/// The run of the DP and the consumer, as the paper says it, with a budget for
+/// The run of the DP and the consumer, as the rules say it, with a budget for
 /// both. A round of the two at least is left while either would act.
 fn dp_alone(bench: &mut Bench, budget: u32, out: &mut [u8]) -> u32 {
     let (mut fetched, mut words) = (0, 0);

@@ -6,9 +6,8 @@ mod common;
 use common::*;
 use model::calls::*;
 use model::machine::REGISTERS;
-use std::process::Command;
 
-/// The paper's whole case.
+/// The rules' whole case.
 const WHOLE_CASE: [u8; 32] = [
     0x01, 0x04, 0x04, 0x00, 0x00, 0x00, 0x00, 0x1F, 0xF8, 0x01, 0x04, 0x04, 0x00, 0x08, 0x00, 0x00,
     0x00, 0x0F, 0x03, 0x00, 0x00, 0x00, 0x02, 0x02, 0x04, 0x04, 0x00, 0x00, 0x00, 0x00, 0x10, 0x08,
@@ -386,91 +385,4 @@ fn each_run_has_its_own_output() {
     let lines = "D 00000100\nD 00000100\nD 00000058\nD 00000000\n";
     assert_eq!(listing, format!("replay 1\n{lines}end 4\n"));
     assert_eq!(state.dp.current, 8 * 600);
-}
-
-/// The line of a read or a check, by the paper's form.
-fn compared(letter: char, address: u32, found: u64, expected: u64) -> String {
-    let digits = if letter == 'R' { 8 } else { 16 };
-    let end = if found == expected {
-        "ok".to_string()
-    } else {
-        format!("expected {expected:0digits$X}")
-    };
-    format!("{letter} {address:08X} {found:0digits$X} {end}\n")
-}
-
-/// The memory that a store or a check means, and the place in it.
-fn memory(bench: &mut Bench, address: u32) -> Option<&mut [u8]> {
-    let (memory, place) = match address {
-        0x0400_0000..=0x0400_0FFF => (&mut bench.dmem, address - 0x0400_0000),
-        0x0400_1000..=0x0400_1FFF => (&mut bench.imem, address - 0x0400_1000),
-        _ => (&mut bench.rdram, address),
-    };
-    memory.get_mut(place as usize..place as usize + 8)
-}
-
-/// Does one record by the single calls and gives its line.
-fn by_single_calls(bench: &mut Bench, reading: Reading) -> String {
-    let state = bench.state.clone();
-    let Reading { address, value, .. } = reading;
-    let number = value as u32;
-    match reading.kind {
-        1 => bench.took(write_register(&state, address, number), success(0, 0)),
-        2 => {
-            let outcome = read_register(&state, address);
-            bench.state = outcome.state;
-            return compared('R', address, outcome.answer.value, value);
-        }
-        3 => return format!("S {:08X}\n", bench.run_sp(number).count),
-        4 => return format!("D {:08X}\n", bench.run_dp(number, &mut [0; 2_048])),
-        10 => {
-            let upper = (value >> 32) as u32;
-            let (answer, words) = bench.run([upper, number, number], &mut [0; 2_048]);
-            return format!("S {:08X}\nD {words:08X}\n", answer.count);
-        }
-        5 => bench.took(tick(&state, number), success(0, 0)),
-        6 => bench.took(sp_break(&state), success(0, 0)),
-        7 => bench.took(acknowledge(&state), success(0, 0)),
-        8 => {
-            if let Some(bytes) = memory(bench, address) {
-                bytes.copy_from_slice(&value.to_be_bytes());
-            }
-        }
-        _ => {
-            let found = memory(bench, address).map_or([0; 8], |b| b.try_into().expect("8 bytes"));
-            return compared('L', address, u64::from_be_bytes(found), value);
-        }
-    }
-    String::new()
-}
-
-/// A replay is the reader and the single calls, one after the other.
-#[test]
-fn a_replay_is_its_records() {
-    for seed in 1..=4 {
-        let program = env!("CARGO_BIN_EXE_generate");
-        let made = Command::new(program)
-            .args([&seed.to_string(), "9000", "queue"])
-            .output();
-        let recording = made.expect("the program runs").stdout;
-        assert!(recording.len() > 8_900);
-        let mut whole = Bench::new();
-        whole.rdram = vec![0; 32_768];
-        let mut single = whole.clone();
-        let (replayed, listing) = whole.replay(&recording);
-        whole.state = replayed.outcome.state;
-        let mut expected = String::from("replay 1\n");
-        let (mut place, mut count) = (0, 0);
-        while place < recording.len() {
-            let reading = read_record(&recording, place);
-            assert_eq!(reading.number, 0);
-            place = reading.place;
-            count += 1;
-            expected += &by_single_calls(&mut single, reading);
-        }
-        assert_eq!(listing, expected + &format!("end {count}\n"));
-        assert_eq!(replayed.outcome.answer, success(0, count));
-        assert_eq!(replayed.place, 0);
-        assert!(whole == single);
-    }
 }

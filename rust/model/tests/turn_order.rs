@@ -116,7 +116,7 @@ fn yet_to_write(bench: &Bench) -> (HashSet<Place>, u32) {
     (places, words)
 }
 
-/// The paper's number of words that the SP has yet to move.
+/// The rules' number of words that the SP has yet to move.
 fn words_left(sp: &SpState) -> u32 {
     if sp.busy == 0 {
         return 0;

@@ -5,7 +5,6 @@ mod common;
 
 use common::*;
 use model::calls::*;
-use std::process::Command;
 
 /// A kind, an address and a value as the writer is given them.
 type Given = (u8, u32, u64);
@@ -88,7 +87,7 @@ fn expect_refused(given: Given, length: usize, place: usize, number: u32) {
     }
 }
 
-/// The paper's whole case and its listing.
+/// The rules' whole case and its listing.
 #[test]
 fn the_whole_case_is_made_by_four_appends() {
     let whole = [
@@ -390,33 +389,9 @@ fn reading_what_was_written_gives_its_kind_and_fields() {
     }
 }
 
-/// Reads a recording and writes what was read, record by record.
-fn copied(recording: &[u8]) -> Vec<u8> {
-    let mut copy: Vec<u8> = recording.iter().map(|byte| !byte).collect();
-    let mut place = 0;
-    while place < recording.len() {
-        let read = read_record(recording, place);
-        assert_eq!(read.number, 0);
-        let given = (read.kind, read.address, read.value);
-        let answer = write(given, &mut copy, place);
-        assert_eq!(answer, success(read.place as u64, 0));
-        place = read.place;
-    }
-    copy
-}
-
 #[test]
 fn writing_what_was_read_gives_the_same_bytes() {
     let kinds = KINDS.map(|(_, bytes)| bytes).concat();
     assert_eq!(kinds.len(), 9 + 9 + 5 + 5 + 5 + 1 + 1 + 13 + 13 + 9);
     assert!(copied(&kinds) == kinds);
-    for seed in 1..=4 {
-        let program = env!("CARGO_BIN_EXE_generate");
-        let made = Command::new(program)
-            .args([&seed.to_string(), "16383", "merged"])
-            .output();
-        let recording = made.expect("the program runs").stdout;
-        assert!(recording.len() > 16_300);
-        assert!(copied(&recording) == recording);
-    }
 }

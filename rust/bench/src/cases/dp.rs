@@ -1,12 +1,12 @@
 //! Runs that fetch and consume whole lists.
 
 use super::{run, Words, DP_STATUS, END, NO_SLOWER, RDRAM, START};
-use crate::buffers::{Buffers, Start};
+use crate::buffers::{Buffers, Start, SEED};
 use crate::library::Library;
 use crate::plain::dp::{Rest, LENGTHS};
 use crate::plain::Ran;
-use crate::random::Random;
 use crate::timing::{Aim, Column, Line};
+use random::Random;
 use std::hint::black_box;
 
 /// Where lists stand in RDRAM.
@@ -39,7 +39,7 @@ impl Commands {
 
 /// Fills memory with commands whose opcodes come in no order; bits 7 and 6 of a first byte do not count.
 pub fn fill_list(bytes: &mut [u8], commands: Commands) {
-    let mut random = Random::new();
+    let mut random = Random::new(SEED);
     random.fill(bytes);
     let mut at = 0;
     while at < bytes.len() {

@@ -1,12 +1,12 @@
 //! Whole replays. The cost of a record must not grow with the recording.
 
 use super::{Words, CURRENT, DP_STATUS, END, RAMADDR, RDLEN, SPADDR, SP_STATUS, START, WRLEN};
-use crate::buffers::Buffers;
+use crate::buffers::{Buffers, SEED};
 use crate::library::Library;
 use crate::plain::replay::Lent;
 use crate::plain::{Machine, Ran};
-use crate::random::Random;
 use crate::timing::Line;
+use random::Random;
 
 const RDRAM: usize = 32_768;
 
@@ -91,10 +91,10 @@ impl Recorder {
 
     /// Stores six words, loads or stores eight by the SP, fetches the six by the DP, and looks at what it did.
     fn group(&mut self, random: &mut Random, runs: Runs) {
-        let ram = 8 * random.below(RDRAM as u64 / 8 - 8) as u32;
-        let offset = 8 * random.below(504) as usize;
+        let ram = 8 * random.below(RDRAM as u32 / 8 - 8);
+        let offset = 8 * random.index(504);
         for i in 0..6 {
-            self.store(ram + 8 * i, random.next());
+            self.store(ram + 8 * i, random.next_u64());
         }
         self.write(SPADDR, offset as u32);
         self.write(RAMADDR, ram);
@@ -115,7 +115,7 @@ impl Recorder {
         self.record(7, &[]);
         self.read(CURRENT);
         self.read(DP_STATUS);
-        self.record(5, &[&(random.below(1000) as u32).to_be_bytes()]);
+        self.record(5, &[&random.below(1000).to_be_bytes()]);
         self.write(SP_STATUS, 1 << random.below(25));
         self.record(6, &[]);
         self.record(7, &[]);
@@ -125,7 +125,7 @@ impl Recorder {
 /// A recording of so many groups, and the number of its records.
 pub fn recording(groups: usize, runs: Runs) -> (Vec<u8>, usize) {
     let mut recorder = Recorder::new();
-    let mut random = Random::new();
+    let mut random = Random::new(SEED);
     for _ in 0..groups {
         recorder.group(&mut random, runs);
     }

@@ -490,6 +490,20 @@ pub fn expect_replay(bench: &Bench, recording: &[u8], number: u32) {
     assert!(tried == *bench);
 }
 
+/// Reads a recording and writes what was read, record by record.
+pub fn copied(recording: &[u8]) -> Vec<u8> {
+    let mut copy: Vec<u8> = recording.iter().map(|byte| !byte).collect();
+    let mut place = 0;
+    while place < recording.len() {
+        let read = read_record(recording, place);
+        assert_eq!(read.number, 0);
+        let answer = write_record(read.kind, read.address, read.value, &mut copy, place);
+        assert_eq!(answer, success(read.place as u64, 0));
+        place = read.place;
+    }
+    copy
+}
+
 /// A xorshift generator of random numbers.
 pub struct Random(pub u64);
 
