@@ -1,6 +1,11 @@
-/* Loads two words to the end of IMEM, where the second wraps to its start, while a list of three words is fetched, of which the last stays queued and is
- * consumed alone; writes registers in a burst of which one address is bad; loads twelve rows, one at a time; then writes the first load as a recording and
- * replays it: as it is, with a wrong expectation, without the read, and with a bad address. Each replay's verdict is shown.
+/* A tour of the calls:
+ *
+ * - loads two words to the end of IMEM, where the second one wraps to the bank's start, while a
+ *   list of three words is fetched; the last of these stays queued and is consumed alone,
+ * - writes registers in a burst in which one address is bad,
+ * - loads twelve rows, one at a time,
+ * - writes the first load as a recording and replays it: as it is, with a wrong expectation,
+ *   without its read, and with a bad address.
  *
  *     rt staticlib ofersky
  *     cc -I c c/example.c target/staticlib/libofersky.a -o example && ./example
@@ -10,12 +15,16 @@
 #include <inttypes.h>
 #include <stdio.h>
 
-static uint8_t rdram[32768], dmem[4096], imem[4096], words[64];
+static uint8_t rdram[32768], dmem[OFERSKY_BANK_BYTES], imem[OFERSKY_BANK_BYTES], words[64];
+
+/* RDRAM, DMEM and IMEM with their lengths, as calls take them. */
+#define MEMORY rdram, sizeof rdram, dmem, sizeof dmem, imem, sizeof imem
 
 /* A register write whose refusal, if there is one, is shown. */
 static ofersky_state written(ofersky_state s, uint32_t address, uint32_t value) {
     ofersky_outcome o = ofersky_write_register(s, address, value);
-    if (o.answer.number != 0) printf("write %08X: refused by %u\n", address, o.answer.number);
+    if (o.answer.number != OFERSKY_OK)
+        printf("write %08X: %s\n", address, ofersky_message(o.answer.number));
     return o.state;
 }
 
@@ -26,50 +35,64 @@ static unsigned value_of(ofersky_state s, uint32_t address) {
 
 static void calls(void) {
     ofersky_state s = ofersky_power_up();
-    s = written(s, 0x04040000, 0x1FF8); /* SPADDR: the last word of IMEM */
-    s = written(s, 0x04040008, 0x0F);   /* RDLEN: two words */
-    s = written(s, 0x04100000, 0x0100); /* START */
-    s = written(s, 0x04100004, 0x0118); /* END: three words */
-    s = written(s, 0x04040002, 0);      /* not a multiple of 4 */
-    s = written(s, 0x04040020, 0);      /* no register */
-    rdram[0x0110] = 0xE9;               /* its last word is a SYNC_FULL */
-    ofersky_ran ran = ofersky_run(s, 100, 100, 2, rdram, sizeof rdram, dmem, sizeof dmem, imem, sizeof imem, words, sizeof words);
+    s = written(s, OFERSKY_SP_SPADDR, 0x1FF8); /* the last word of IMEM */
+    s = written(s, OFERSKY_SP_RDLEN, 0x0F);    /* two words */
+    s = written(s, OFERSKY_DP_START, 0x0100);
+    s = written(s, OFERSKY_DP_END, 0x0118); /* three words */
+    s = written(s, 0x04040002, 0);          /* not a multiple of 4 */
+    s = written(s, 0x04040020, 0);          /* no register */
+    rdram[0x0110] = 0xE9;                   /* the list's last word is a SYNC_FULL */
+    ofersky_ran ran = ofersky_run(s, 100, 100, 2, MEMORY, words, sizeof words);
     s = ran.outcome.state;
-    printf("moved %u words, SPADDR %08X\n", ran.outcome.answer.count, value_of(s, 0x04040000));
-    printf("consumed %u words, CURRENT %08X\n", ran.words, value_of(s, 0x04100008));
+    printf("moved %u words, ", ran.outcome.answer.count);
+    printf("SPADDR %08X\n", value_of(s, OFERSKY_SP_SPADDR));
+    printf("consumed %u words, CURRENT %08X\n", ran.words, value_of(s, OFERSKY_DP_CURRENT));
     printf("queued: %u, the oldest %016" PRIX64 "\n", s.dp.queued, ofersky_queued_word(&s, 0));
     ofersky_outcome turn = ofersky_consumer_turn(s);
     printf("consumed %016" PRIX64 ", DP line %u\n", turn.answer.value, turn.state.dp.line);
-    s.sp.busy = 2; /* no flag: an unsound state */
-    printf("refused by %u\n", ofersky_tick(s, 1).answer.number);
+    s.sp.busy = 2; /* a flag is 0 or 1 */
+    printf("refused: %s\n", ofersky_message(ofersky_tick(s, 1).answer.number));
 }
 
 /* A transfer and a list are set up at once, but the fourth address is not a multiple of 4. */
 static void burst(void) {
-    static const uint32_t addresses[] = {0x04040004, 0x04040008, 0x04100000, 0x04100006, 0x04100004}; /* RAMADDR, RDLEN, START, a bad one, END */
+    static const uint32_t addresses[] = {OFERSKY_SP_RAMADDR, OFERSKY_SP_RDLEN, OFERSKY_DP_START,
+                                         0x04100006, OFERSKY_DP_END};
     static const uint32_t values[] = {0x2000, 0x0F, 0x0100, 0x0110, 0x0118};
     ofersky_outcome o = ofersky_write_registers(ofersky_power_up(), addresses, 5, values, 5);
     uint32_t done = o.answer.count;
-    printf("%u pairs written, refused by %u\n", done, o.answer.number);
-    printf("RAMADDR %08X, START %08X, DP STATUS %08X\n", value_of(o.state, 0x04040004), value_of(o.state, 0x04100000), value_of(o.state, 0x0410000C));
-    o = ofersky_write_registers(o.state, addresses + done + 1, 4 - done, values + done + 1, 4 - done); /* the pairs behind the bad one */
-    printf("%u pair written, CURRENT %08X, DP STATUS %08X\n", o.answer.count, value_of(o.state, 0x04100008), value_of(o.state, 0x0410000C));
-    o = ofersky_write_registers(o.state, addresses, 3, values, 2); /* START without its value */
-    printf("%u pairs written, refused by %u\n", o.answer.count, o.answer.number);
+    printf("%u pairs written: %s\n", done, ofersky_message(o.answer.number));
+    printf("RAMADDR %08X, ", value_of(o.state, OFERSKY_SP_RAMADDR));
+    printf("START %08X, ", value_of(o.state, OFERSKY_DP_START));
+    printf("DP STATUS %08X\n", value_of(o.state, OFERSKY_DP_STATUS));
+    /* The pairs after the bad one. */
+    uint32_t next = done + 1, left = 5 - next;
+    o = ofersky_write_registers(o.state, addresses + next, left, values + next, left);
+    printf("%u pair written, ", o.answer.count);
+    printf("CURRENT %08X, ", value_of(o.state, OFERSKY_DP_CURRENT));
+    printf("DP STATUS %08X\n", value_of(o.state, OFERSKY_DP_STATUS));
+    /* An address without its value. */
+    o = ofersky_write_registers(o.state, addresses, 3, values, 2);
+    printf("%u pairs written: %s\n", o.answer.count, ofersky_message(o.answer.number));
 }
 
 static void rows(void) {
-    ofersky_state s = written(ofersky_power_up(), 0x04040004, 0x1000); /* RAMADDR */
-    s = written(s, 0x04040008, 0x0200B03F); /* RDLEN: twelve rows of eight words, with 32 bytes skipped between them */
-    uint32_t number = 0, words = 0;
+    ofersky_state s = written(ofersky_power_up(), OFERSKY_SP_RAMADDR, 0x1000);
+    /* Twelve rows of eight words, with 32 bytes skipped between them. */
+    s = written(s, OFERSKY_SP_RDLEN, 0x0200B03F);
+    uint32_t number = 0, moved = 0;
     for (;;) {
-        ofersky_outcome row = ofersky_sp_row(s, rdram, sizeof rdram, dmem, sizeof dmem, imem, sizeof imem);
+        ofersky_outcome row = ofersky_sp_row(s, MEMORY);
         if (row.answer.count == 0) break; /* idle, or refused */
         s = row.state;
-        words += row.answer.count;
-        if (number++ == 0) printf("a row of %u words, RAMADDR %08X\n", words, value_of(s, 0x04040004));
+        moved += row.answer.count;
+        if (number++ == 0) {
+            printf("a row of %u words, ", moved);
+            printf("RAMADDR %08X\n", value_of(s, OFERSKY_SP_RAMADDR));
+        }
     }
-    printf("%u rows, %u words, RAMADDR %08X\n", number, words, value_of(s, 0x04040004));
+    printf("%u rows, %u words, ", number, moved);
+    printf("RAMADDR %08X\n", value_of(s, OFERSKY_SP_RAMADDR));
 }
 
 /* What a replay says of its recording. Only OFERSKY_PASSED is a pass. */
@@ -80,13 +103,15 @@ static void show_verdict(ofersky_replayed done) {
         printf("passed: %u compared\n", found.compared);
         break;
     case OFERSKY_DIFFERS:
-        printf("differs: %u of %u compared, first record %u at byte %zu\n", found.differed, found.compared, found.first_index, found.first_place);
+        printf("differs: %u of %u compared, ", found.differed, found.compared);
+        printf("first record %u at byte %zu\n", found.first_index, found.first_place);
         break;
     case OFERSKY_NOTHING_COMPARED:
         printf("nothing compared\n");
         break;
     case OFERSKY_REFUSED:
-        printf("refused by %u at byte %zu: %u compared, %u differed\n", done.outcome.answer.number, done.place, found.compared, found.differed);
+        printf("refused at byte %zu: ", done.place);
+        printf("%s\n", ofersky_message(done.outcome.answer.number));
         break;
     }
 }
@@ -94,31 +119,31 @@ static void show_verdict(ofersky_replayed done) {
 /* Replays a recording from power-up and shows its listing and its verdict. */
 static void replay(const uint8_t *bytes, size_t length) {
     static uint8_t listing[OFERSKY_LISTING_BYTES];
-    ofersky_replayed done = ofersky_replay(ofersky_power_up(), bytes, length, rdram, sizeof rdram, dmem, sizeof dmem, imem, sizeof imem, listing,
-                                           sizeof listing);
+    ofersky_state s = ofersky_power_up();
+    ofersky_replayed done = ofersky_replay(s, bytes, length, MEMORY, listing, sizeof listing);
     fwrite(listing, 1, done.written, stdout);
     show_verdict(done);
 }
 
 static void recording(void) {
     static const ofersky_record records[] = {
-        {.kind = 1, .address = 0x04040000, .value = 0x1FF8},
-        {.kind = 1, .address = 0x04040008, .value = 0x0F},
-        {.kind = 3, .value = 2},
-        {.kind = 2, .address = 0x04040000, .value = 0x1008}, /* the SPADDR that is expected */
+        {.kind = OFERSKY_KIND_WRITE, .address = OFERSKY_SP_SPADDR, .value = 0x1FF8},
+        {.kind = OFERSKY_KIND_WRITE, .address = OFERSKY_SP_RDLEN, .value = 0x0F},
+        {.kind = OFERSKY_KIND_SP_RUN, .value = 2},
+        {.kind = OFERSKY_KIND_READ, .address = OFERSKY_SP_SPADDR, .value = 0x1008}, /* expected */
     };
     static uint8_t bytes[32];
     size_t place = 0;
     for (int i = 0; i < 4; i++) {
         ofersky_answer a = ofersky_write_record(records[i], bytes, sizeof bytes, place);
-        if (a.number != 0) printf("record %d: refused by %u\n", i, a.number);
+        if (a.number != OFERSKY_OK) printf("record %d: %s\n", i, ofersky_message(a.number));
         place = a.value;
     }
     replay(bytes, place);
     bytes[31] = 9; /* the last byte of what the read expects: 0x1009 */
     replay(bytes, place);
-    replay(bytes, 23); /* the read left out */
-    bytes[27] = 2; /* the last byte of the read's address: not a multiple of 4 */
+    replay(bytes, 23); /* without the read */
+    bytes[27] = 2;     /* the last byte of the read's address: not a multiple of 4 */
     replay(bytes, place);
 }
 

@@ -1,3 +1,4 @@
+pub mod Version
 pub mod States
 pub mod Records
 pub mod Parts

@@ -1,8 +1,10 @@
-//! The functions of the static library. Nothing checks these declarations against its source: the comparison with the model does.
+//! The functions of the static library. The compiler cannot check these declarations against the library: the comparison
+//! with the model calls each of them.
 
 use crate::{Answer, Outcome, Part, Ran, Reading, Record, Replayed, State};
 
 extern "C" {
+    pub fn ofersky_version() -> u32;
     pub fn ofersky_power_up() -> State;
     pub fn ofersky_is_sound(s: State) -> bool;
     pub fn ofersky_read_register(s: State, address: u32) -> Outcome;
