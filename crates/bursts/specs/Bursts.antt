@@ -1,4 +1,4 @@
--- Several register writes in one call, a burst (paper 02, (vii)): the i-th value is written to the register at the i-th address.
+-- Several register writes in one call, a burst (request (vii)): the i-th value is written to the register at the i-th address.
 use Prim.Native.Nat.{ℕ, suc}
 use mathlib.Core.Path.{_≡_}
 use mathlib.Core.Bool.{Bool, _&&_}

@@ -40,7 +40,7 @@ differsLine compared differed index place =
 abbrev pub nothingLine : Text
 nothingLine = 78 ∷ 79 ∷ 84 ∷ 72 ∷ 73 ∷ 78 ∷ 71 ∷ 32 ∷ 67 ∷ 79 ∷ 77 ∷ 80 ∷ 65 ∷ 82 ∷ 69 ∷ 68 ∷ 58 ∷ 32 ∷ 110 ∷ 111 ∷ 32 ∷ 114 ∷ 101 ∷ 99 ∷ 111 ∷ 114 ∷ 100 ∷ 32 ∷ 111 ∷ 102 ∷ 32 ∷ 107 ∷ 105 ∷ 110 ∷ 100 ∷ 32 ∷ 50 ∷ 32 ∷ 111 ∷ 114 ∷ 32 ∷ 57 ∷ 10 ∷ []
 
--- Why, by paper 01's number: `unknown kind`, `cut short`, `register address not a multiple of 4`, `no register at this address`, `memory address
+-- Why, by the refusal's number: `unknown kind`, `cut short`, `register address not a multiple of 4`, `no register at this address`, `memory address
 -- not allowed`, `longer than 16,383 bytes`; else `not begun`
 abbrev pub kindText : Text
 kindText = 117 ∷ 110 ∷ 107 ∷ 110 ∷ 111 ∷ 119 ∷ 110 ∷ 32 ∷ 107 ∷ 105 ∷ 110 ∷ 100 ∷ []

@@ -1,4 +1,4 @@
--- The call that finishes the current row (paper 02, (vi)): what it answers, and the memory that it leaves.
+-- The call that finishes the current row (request (vi)): what it answers, and the memory that it leaves.
 use Rattle.words.specs.Memory.{Memory}
 use Rattle.sp.specs.Turn.{spAfter, memoryAfter}
 use Rattle.sp.specs.Rows.{rowTurns}

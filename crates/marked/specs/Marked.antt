@@ -1,4 +1,4 @@
--- The twelve marked examples of paper 01, M8 to M10 as request (iii) has them and M9, M11 and M12 read as (ix) says, as one table, and when an example holds:
+-- The twelve marked examples of the rules, M8 to M10 as request (iii) has them and M9, M11 and M12 read as (ix) says, as one table, and when an example holds:
 -- every call answers as the table says.
 use Prim.Native.Nat.{ℕ, zero, suc}
 use mathlib.Core.Bool.{Bool, true, false, _&&_, Bool·beq}

@@ -1,1 +1,1 @@
-// The twelve marked examples of paper 01: one table in specs/, one theorem in proofs/.
+// The twelve marked examples of the rules: one table in specs/, one theorem in proofs/.

@@ -1,4 +1,4 @@
--- The whole case of paper 01, the case that stops, and the first one's recording as the writer makes it, by computation.
+-- The whole case of the rules, the case that stops, and the first one's recording as the writer makes it, by computation.
 use mathlib.Core.Path.{_≡_, refl}
 use mathlib.Core.List.{[], _∷_}
 use native.Mathlib.Omega.{arith}

@@ -1,4 +1,4 @@
--- The whole case of paper 01: a recording of 32 bytes, and its listing. And a recording that stops, with the lines that the first one has not.
+-- The whole case of the rules: a recording of 32 bytes, and its listing. And a recording that stops, with the lines that the first one has not.
 use Prim.Native.Nat.{ℕ}
 use mathlib.Core.List.{List, [], _∷_}
 use lib.ListN.{replicate}

@@ -49,14 +49,14 @@ differedOf (Differs compared differed) = differed
 differedOf NothingCompared = 0
 differedOf (Passed compared) = 0
 
--- What the verdict v on what a replay gave promises, for every value of r: the case, and with it paper 01's number and the values of that case
+-- What the verdict v on what a replay gave promises, for every value of r: the case, and with it the number and the values that it stands for
 pub record VerdictGives (r : Replayed) (v : Verdict) : Type 0 where
   pub given : v ≡ verdict r
   pub number : numberOf v ≡ r .outcome .answer .number
   pub compared : comparedOf v ≡ r .findings .compared
   pub differed : differedOf v ≡ r .findings .differed
 
--- The code of each case, as host programs get it. It is none of paper 01's numbers, and never 0
+-- The code of each case, as host programs get it. It is no number of a refusal, and never 0
 abbrev pub codeOf : Verdict → ℕ
 codeOf (Refused number compared differed) = 103
 codeOf (Differs compared differed) = 101

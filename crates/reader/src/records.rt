@@ -1,4 +1,4 @@
-// The checks of a record, in the order of the paper, and the reader.
+// The checks of a record, in the order of the rules, and the reader.
 use crate::fields::byte;
 use crate::fields::is_kind;
 use crate::fields::record_of;

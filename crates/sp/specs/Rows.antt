@@ -1,4 +1,4 @@
--- A row at a time (paper 02, (vi)): the turns that finish the current row, and the registers that they leave.
+-- A row at a time (request (vi)): the turns that finish the current row, and the registers that they leave.
 -- `withTransfer` takes SPADDR, RAMADDR, LEN, COUNT, SKIP, ROW, BUSY, the direction and FULL, in this order.
 use Prim.Native.Nat.{ℕ, _+_, _-_, _/_, _<_, _≤_}
 use mathlib.Core.Path.{_≡_}
