@@ -1,5 +1,6 @@
-//! OFERSKY_BEFORE names the folder of an earlier libofersky.a, to be timed beside this one in the same run. All its names are hidden but those of the calls
-//! that are timed, which get names of their own, and declarations that are made of ours.
+//! OFERSKY_BEFORE names the folder of an earlier libofersky.a, to be timed beside this one in the
+//! same run. All its names are hidden but those of the calls that are timed, which get names of
+//! their own, and declarations that are made of ours.
 
 use std::env;
 use std::fs;

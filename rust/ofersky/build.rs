@@ -1,7 +1,8 @@
-//! Tells cargo where the library is that `rt staticlib ofersky` writes. OFERSKY_LIB names another folder.
+//! Tells cargo where the library is that `rt staticlib ofersky` writes. OFERSKY_LIB names another
+//! folder.
 //!
-//! Where the library is not built yet this is a warning and no error: `cargo check`, `cargo doc` and editors do not need
-//! it. What is linked then fails, for want of the library.
+//! Where the library is not built yet this is a warning and no error: `cargo check`, `cargo doc`
+//! and editors do not need it. What is linked then fails, for want of the library.
 
 use std::env;
 use std::path::PathBuf;
@@ -23,6 +24,7 @@ fn main() {
         );
     }
     println!("cargo:rustc-link-search=native={}", folder.display());
-    // Bundled, it would be read when the package itself is compiled, and `cargo check` would fail without it.
+    // Bundled, it would be read when the package itself is compiled, and `cargo check` would fail
+    // without it.
     println!("cargo:rustc-link-lib=static:-bundle=ofersky");
 }

@@ -1,5 +1,5 @@
-//! An earlier library, under the names that build.rs gives its calls. It is one with the queue and a run of three budgets, so that its structs are ours, and it
-//! need not have rows or bursts.
+//! An earlier library, under the names that build.rs gives its calls. It is one with the queue and
+//! a run of three budgets, so that its structs are ours, and it need not have rows or bursts.
 
 use crate::buffers::Buffers;
 use crate::library::Library;
@@ -18,6 +18,7 @@ fn shared(bytes: &[u8]) -> (*const u8, usize) {
     (bytes.as_ptr(), bytes.len())
 }
 
+/// A mutable slice as C takes it.
 fn lent(bytes: &mut [u8]) -> (*mut u8, usize) {
     (bytes.as_mut_ptr(), bytes.len())
 }
@@ -25,6 +26,8 @@ fn lent(bytes: &mut [u8]) -> (*mut u8, usize) {
 pub static BEFORE: Library = Library {
     run: |state, sp, dp, consumer, rdram, dmem, imem, out| {
         let [r, d, i, o] = [rdram, dmem, imem, out].map(lent);
+        // SAFETY: each pointer and length are of one slice, borrowed for the call, and a mutable
+        // borrow overlaps nothing. The library of `build.rs` has the same structs.
         unsafe {
             before_run(
                 state, sp, dp, consumer, r.0, r.1, d.0, d.1, i.0, i.1, o.0, o.1,
@@ -34,19 +37,28 @@ pub static BEFORE: Library = Library {
     sp_row: run_row,
     sp_turn: |state, rdram, dmem, imem| {
         let [r, d, i] = [rdram, dmem, imem].map(lent);
+        // SAFETY: each pointer and length are of one slice, borrowed for the call, and a mutable
+        // borrow overlaps nothing. The library of `build.rs` has the same structs.
         unsafe { before_sp_turn(state, r.0, r.1, d.0, d.1, i.0, i.1) }
     },
     dp_turn: |state, rdram, dmem| {
         let [r, d] = [rdram, dmem].map(shared);
+        // SAFETY: each pointer and length are of one slice, borrowed for the call, and nothing is
+        // written. The library of `build.rs` has the same structs.
         unsafe { before_dp_turn(state, r.0, r.1, d.0, d.1) }
     },
+    // SAFETY: no pointer is handed over.
     consumer_turn: |state| unsafe { before_consumer_turn(state) },
+    // SAFETY: no pointer is handed over.
     read_register: |state, address| unsafe { before_read_register(state, address) },
+    // SAFETY: no pointer is handed over.
     write_register: |state, address, value| unsafe { before_write_register(state, address, value) },
     write_registers: single_writes,
     replay: |state, recording, rdram, dmem, imem, out| {
         let s = shared(recording);
         let [r, d, i, o] = [rdram, dmem, imem, out].map(lent);
+        // SAFETY: each pointer and length are of one slice, borrowed for the call, and a mutable
+        // borrow overlaps nothing. The library of `build.rs` has the same structs.
         unsafe { before_replay(state, s.0, s.1, r.0, r.1, d.0, d.1, i.0, i.1, o.0, o.1) }
     },
 };

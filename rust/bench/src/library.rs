@@ -3,12 +3,14 @@
 use crate::buffers::Buffers;
 use ofersky::{Outcome, Ran, Replayed, State};
 
-/// A library by the addresses of its calls, which have the shape that the wrapper gives them. With addresses that the compiler cannot foresee, it hands a state on
-/// with as many copies whether it can look into a call or not.
+/// A library by the addresses of its calls, which have the shape that the wrapper gives them. With
+/// addresses that the compiler cannot foresee, it hands a state on with as many copies whether it
+/// can look into a call or not.
 #[allow(clippy::type_complexity)]
 pub struct Library {
     pub run: fn(State, u32, u32, u32, &mut [u8], &mut [u8], &mut [u8], &mut [u8]) -> Ran,
-    /// The row of the state in the outcome; it leaves the next outcome there, because one more copy would count.
+    /// The row of the state in the outcome; it leaves the next outcome there, because one more copy
+    /// would count.
     pub sp_row: fn(&mut Ran, &mut Buffers),
     pub sp_turn: fn(State, &mut [u8], &mut [u8], &mut [u8]) -> Outcome,
     pub dp_turn: fn(State, &[u8], &[u8]) -> Outcome,

@@ -1,5 +1,7 @@
-//! How fast the library is, beside the same loop in plain Rust and beside a plain copy of as many bytes; the SP alone also beside a DMA loop as emulators have it;
-//! and what all this took in an earlier library, if build.rs was told of one.
+//! How fast the library is, beside the same loop in plain Rust and beside a plain copy of as many
+//! bytes; the SP alone also beside a DMA loop as emulators have it; and what all this took in an
+//! earlier library, if build.rs was told of one.
+#![warn(clippy::undocumented_unsafe_blocks)]
 
 #[cfg(before)]
 mod before;
@@ -43,7 +45,8 @@ fn main() {
     }
 }
 
-/// Shows lines as they are measured, with what ours takes of some columns, and then what has become of the aims.
+/// Shows lines as they are measured, with what ours takes of some columns, and then what has become
+/// of the aims.
 fn table(columns: &[Column], ratios: &[Column], lines: fn(&mut dyn FnMut(Line))) {
     head(columns, ratios);
     let mut worst = Worst::default();

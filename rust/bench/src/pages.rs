@@ -1,4 +1,5 @@
-//! Memory from the start of a page on: where in a page it begins decides up to half of the time of a short copy.
+//! Memory from the start of a page on: where in a page it begins decides up to half of the time of
+//! a short copy.
 
 use crate::plain::Bank;
 use std::ops::{Deref, DerefMut};
@@ -39,7 +40,7 @@ impl Deref for Pages {
 
     fn deref(&self) -> &[u8] {
         let bytes = size_of_val(&self.0[..]);
-        // A page is its bytes and nothing else, and the next one follows it.
+        // SAFETY: a page is its bytes and nothing else, and the next one follows it.
         unsafe { slice::from_raw_parts(self.0.as_ptr().cast(), bytes) }
     }
 }
@@ -47,6 +48,7 @@ impl Deref for Pages {
 impl DerefMut for Pages {
     fn deref_mut(&mut self) -> &mut [u8] {
         let bytes = size_of_val(&self.0[..]);
+        // SAFETY: as in `deref`, and the pages are borrowed mutably.
         unsafe { slice::from_raw_parts_mut(self.0.as_mut_ptr().cast(), bytes) }
     }
 }

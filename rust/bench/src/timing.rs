@@ -7,7 +7,8 @@ use std::time::{Duration, Instant};
 const ROUNDS: usize = 64;
 const ROUND: Duration = Duration::from_millis(1);
 
-/// Where the stack stands in a line of the cache decides up to a fifth of the time in which a state is handed on. So the rounds are made at each of these depths.
+/// Where the stack stands in a line of the cache decides up to a fifth of the time in which a state
+/// is handed on. So the rounds are made at each of these depths.
 const DEPTHS: [fn(Timed) -> f64; 4] = [lower::<16>, lower::<32>, lower::<48>, lower::<64>];
 
 type Timed<'a> = &'a mut dyn FnMut() -> f64;
@@ -139,7 +140,8 @@ pub fn measure(
     let mut times = vec![f64::INFINITY; ways.len()];
     for i in 0..ROUNDS {
         let at_depth = DEPTHS[i % DEPTHS.len()];
-        // Interleaved, so that a slow spell of the machine falls on all of them; and the fastest counts, because whatever else runs only makes a round slower.
+        // Interleaved, so that a slow spell of the machine falls on all of them; and the fastest
+        // counts, because whatever else runs only makes a round slower.
         for ((way, repeats), fastest) in ways.iter().zip(&repeats).zip(&mut times) {
             let time = at_depth(&mut || (way.round)(buffers, *repeats));
             *fastest = fastest.min(time / size as f64);

@@ -1,5 +1,5 @@
-//! Bursts of register writes, by the library and by the model; and by the library's own
-//! single writes, and cut in two, with the ring slot by slot.
+//! Bursts of register writes, by the library and by the model; and by the library's own single
+//! writes, and cut in two, with the ring slot by slot.
 
 use compare::cases::addresses::{in_any_copy, register};
 use compare::cases::bursts::{any_burst, burst, good_pairs, lengthen, refused_by, Pair};

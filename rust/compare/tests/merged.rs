@@ -1,6 +1,6 @@
-//! Runs of the SP, the DP and the consumer, by the library and by the model: any, every
-//! small one, those in which the SP acts alone, and the library against its own single turns. And
-//! series of such turns: what the order does to them.
+//! Runs of the SP, the DP and the consumer, by the library and by the model: any, every small one,
+//! those in which the SP acts alone, and the library against its own single turns. And series of
+//! such turns: what the order does to them.
 
 use compare::cases::calls::run_of;
 use compare::cases::lengths::{good_lengths, odd_lengths};

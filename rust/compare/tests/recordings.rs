@@ -200,8 +200,8 @@ fn command_list(random: &mut Random, first: u8, xbus: bool) -> Vec<Record> {
     records
 }
 
-/// Runs through a list: word by word, in one, or cut at a random place, with the status read
-/// after each.
+/// Runs through a list: word by word, in one, or cut at a random place, with the status read after
+/// each.
 fn list_runs(random: &mut Random, style: usize) -> Vec<Record> {
     let part = random.below(24);
     let budgets = match style {

@@ -1,5 +1,5 @@
-//! Rows in one call, by the library and by the model; and by the library's own single turns
-//! and its own run, with the ring slot by slot.
+//! Rows in one call, by the library and by the model; and by the library's own single turns and its
+//! own run, with the ring slot by slot.
 
 use compare::cases::lengths::good_lengths;
 use compare::cases::rows::{busy, wait, Edges};

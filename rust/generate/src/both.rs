@@ -8,8 +8,8 @@ use model::machine::{
 use model::recording::Record;
 
 impl Generator {
-    /// A list and a transfer at once. Mostly the SP writes where the list has yet
-    /// to be fetched, so that the order of their turns decides.
+    /// A list and a transfer at once. Mostly the SP writes where the list has yet to be fetched, so
+    /// that the order of their turns decides.
     pub(crate) fn list_and_transfer(&mut self) {
         let xbus = self.random.pick(&[CLEAR_XBUS, SET_XBUS]);
         self.make_ready(xbus);
@@ -38,8 +38,8 @@ impl Generator {
         self.check_touched(2);
     }
 
-    /// Lets the next transfer write from a few words before the start of a list
-    /// or after it on: the DP is ahead of the SP there, or behind it.
+    /// Lets the next transfer write from a few words before the start of a list or after it on: the
+    /// DP is ahead of the SP there, or behind it.
     pub(crate) fn aim_at(&mut self, start: u32) {
         let ahead = 8 * self.random.below(8);
         let address = (start + ahead).wrapping_sub(0x20) & RAM_BITS;

@@ -6,8 +6,8 @@ use model::machine::{command_length, DP_END, DP_START, DP_STATUS};
 use model::recording::RDRAM_BYTES;
 
 impl Generator {
-    /// The words of one whole command. Words after the first often look like
-    /// a SYNC_FULL, so that a slip in the framing shows.
+    /// The words of one whole command. Words after the first often look like a SYNC_FULL, so that a
+    /// slip in the framing shows.
     pub(crate) fn command(&mut self, opcode: u8) -> Vec<u64> {
         let mut words = Vec::new();
         for i in 0..command_length(opcode) {
@@ -36,8 +36,7 @@ impl Generator {
         words
     }
 
-    /// Stores a list where the XBUS flag will look for it and gives the
-    /// values for START and END.
+    /// Stores a list where the XBUS flag will look for it and gives the values for START and END.
     pub(crate) fn place_list(&mut self, words: &[u64]) -> (u32, u32) {
         let bytes = 8 * words.len() as u32;
         let xbus = self.machine.dp.xbus;
@@ -74,8 +73,8 @@ impl Generator {
         list
     }
 
-    /// Makes the DP engine ready for a list: neither frozen nor flushing.
-    /// Words left of a command are mostly dropped, but not always.
+    /// Makes the DP engine ready for a list: neither frozen nor flushing. Words left of a command
+    /// are mostly dropped, but not always.
     pub(crate) fn make_ready(&mut self, xbus: u32) {
         let dp = &self.machine.dp;
         let in_use = dp.runs() || dp.start_pending;

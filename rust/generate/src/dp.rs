@@ -45,8 +45,8 @@ impl Generator {
         self.run_lists();
     }
 
-    /// A list that stops within a command, then more of it by END alone or
-    /// another list that takes the words left.
+    /// A list that stops within a command, then more of it by END alone or another list that takes
+    /// the words left.
     pub(crate) fn list_left_in_mid_command(&mut self) {
         self.make_ready(CLEAR_XBUS);
         let opcode = self.random.pick(&[0x08, 0x09, 0x0B, 0x0D, 0x0F, 0x24]);

@@ -19,14 +19,14 @@ pub enum Traffic {
 /// A recording that is being made, and the machine that its records lead to.
 pub(crate) struct Generator {
     pub(crate) random: Random,
-    /// Chooses the mirrors and nothing else, so that all other choices of a
-    /// seed are the same with mirrors and without.
+    /// Chooses the mirrors and nothing else, so that all other choices of a seed are the same with
+    /// mirrors and without.
     pub(crate) mirrors: Random,
     pub(crate) machine: Machine,
     pub(crate) bytes: Vec<u8>,
     pub(crate) limit: usize,
-    /// Runs of both engines are made. Nothing is chosen for them otherwise, so
-    /// that a seed gives what it gave before there were any.
+    /// Runs of both engines are made. Nothing is chosen for them otherwise, so that a seed gives
+    /// what it gave before there were any.
     pub(crate) merged: bool,
     /// A record did not fit: nothing more is written.
     pub(crate) done: bool,

@@ -1,6 +1,6 @@
-//! `generate SEED BYTES` writes a recording of at most BYTES bytes,
-//! `generate SEED BYTES merged` one with runs of both engines in it, too, and
-//! `generate SEED BYTES queue` one in which words often stay queued beside that.
+//! `generate SEED BYTES` writes a recording of at most BYTES bytes, `generate SEED BYTES merged`
+//! one with runs of both engines in it, too, and `generate SEED BYTES queue` one in which words
+//! often stay queued beside that.
 
 use generate::{generate, Traffic};
 use std::io::{self, Write};

@@ -8,9 +8,8 @@ use model::machine::{DP_CURRENT, DP_END, DP_STATUS, SP_RAMADDR, SP_RDLEN, SP_WRL
 use model::recording::RDRAM_BYTES;
 
 impl Generator {
-    /// A list over what stands in memory, and longer than a run's output: words
-    /// stay queued behind the run, and mostly for other sequences, too. One of
-    /// them is a SYNC_FULL.
+    /// A list over what stands in memory, and longer than a run's output: words stay queued behind
+    /// the run, and mostly for other sequences, too. One of them is a SYNC_FULL.
     pub(crate) fn words_stay_queued(&mut self) {
         let xbus = self.random.pick(&[CLEAR_XBUS, SET_XBUS]);
         self.make_ready(xbus);
@@ -72,8 +71,7 @@ impl Generator {
         }
     }
 
-    /// A transfer that writes near CURRENT: fetches that a full queue holds back
-    /// see more of it.
+    /// A transfer that writes near CURRENT: fetches that a full queue holds back see more of it.
     pub(crate) fn transfer_beside_queued_words(&mut self) {
         self.run(ALL, 0);
         self.write_spaddr_and_ramaddr();

@@ -41,8 +41,7 @@ const MERGED_SEQUENCES: [Sequence; 3] = [
 /// And these where words are to stay queued.
 const QUEUE_SEQUENCES: [Sequence; 12] = [Generator::words_stay_queued; 12];
 
-/// The sequences of a pass. Those with words that stay queued have runs of both
-/// engines, too.
+/// The sequences of a pass. Those with words that stay queued have runs of both engines, too.
 pub(crate) fn sequences(traffic: Traffic) -> Vec<Sequence> {
     let mut sequences = SEQUENCES.to_vec();
     if traffic != Traffic::Plain {

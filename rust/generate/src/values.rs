@@ -9,8 +9,8 @@ use model::recording::RDRAM_BYTES;
 const MANY_SP_WORDS: u32 = 1_200_000;
 
 impl Generator {
-    /// A multiple of 8 in 24 bits: mostly in RDRAM, else about its end, past
-    /// it, or just below 2^24.
+    /// A multiple of 8 in 24 bits: mostly in RDRAM, else about its end, past it, or just below
+    /// 2^24.
     pub(crate) fn ram_address(&mut self) -> u32 {
         let random = &mut self.random;
         let address = match random.below(10) {

@@ -20,9 +20,9 @@ impl Generator {
         assert!(self.machine.is_sound());
     }
 
-    /// An address of a register: its first one, but for about one in three of
-    /// those of the DP a mirror's. The first mirror, the last one and those a
-    /// power of two away are chosen more often than others.
+    /// An address of a register: its first one, but for about one in three of those of the DP a
+    /// mirror's. The first mirror, the last one and those a power of two away are chosen more often
+    /// than others.
     pub(crate) fn address_of(&mut self, register: u32) -> u32 {
         let random = &mut self.mirrors;
         if register < DP_START || !random.once_in(3) {

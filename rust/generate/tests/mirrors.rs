@@ -68,8 +68,8 @@ fn generated(seed: u64, limit: usize) -> Vec<u8> {
     recording
 }
 
-/// Replays records as they are and through first copies: all is the same but
-/// for the addresses in `R` lines, which are those recorded.
+/// Replays records as they are and through first copies: all is the same but for the addresses in
+/// `R` lines, which are those recorded.
 fn expect_same_replays(start: &Bench, records: &[Vec<u8>], refused: usize) {
     let firsts = through_first_copies(records);
     assert!(firsts != *records);
@@ -101,8 +101,8 @@ fn a_recording_with_mirrors_replays_as_through_first_copies() {
     }
 }
 
-/// About a third of the DP accesses go through mirrors: the first, the last
-/// and others; SP accesses and all other records know none.
+/// About a third of the DP accesses go through mirrors: the first, the last and others; SP accesses
+/// and all other records know none.
 #[test]
 fn generated_recordings_go_through_mirrors() {
     for seed in [0, 1, 138, u32::MAX.into()] {

@@ -20,9 +20,9 @@ fn kinds(recording: &[u8]) -> Vec<u8> {
     kinds
 }
 
-/// Generated recordings are whole, within their length, and have both kinds
-/// of line; the sound states are seen to by the generator itself. Runs of both
-/// engines are in them exactly where they are asked for.
+/// Generated recordings are whole, within their length, and have both kinds of line; the sound
+/// states are seen to by the generator itself. Runs of both engines are in them exactly where they
+/// are asked for.
 #[test]
 fn generated_recordings_replay_to_their_end() {
     for seed in 1..=6 {

@@ -1,7 +1,7 @@
 //! `judge FILE` replays a recording from power-up, writes its listing and says what it found.
 //!
-//! Status 0: passed. 1: a value differs, the recording is refused, or nothing was compared. 2: the file cannot be read,
-//! or the listing cannot be written.
+//! Status 0: passed. 1: a value differs, the recording is refused, or nothing was compared. 2: the
+//! file cannot be read, or the listing cannot be written.
 
 use ofersky::{message, Replayed, Verdict, BANK_BYTES, LISTING_BYTES};
 use std::io::Write;

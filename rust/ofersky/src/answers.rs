@@ -14,9 +14,9 @@ pub struct Answer {
     pub count: u32,
 }
 
-/// The next state, or after a refusal the state as handed in, and the answer. There are two exceptions: a replay that stops
-/// at a record gives the state that the records before it left, and a burst that stops at a pair the state that the
-/// pairs before it left.
+/// The next state, or after a refusal the state as handed in, and the answer. There are two
+/// exceptions: a replay that stops at a record gives the state that the records before it left, and
+/// a burst that stops at a pair the state that the pairs before it left.
 #[repr(C)]
 #[derive(Clone, Copy, Debug, Default, PartialEq, Eq)]
 pub struct Outcome {
@@ -48,7 +48,8 @@ pub struct Part {
     pub length: u32,
 }
 
-/// What the reader gives: the record and the place after it; or the number of the refusal, kind 0 and place 0.
+/// What the reader gives: the record and the place after it; or the number of the refusal, kind 0
+/// and place 0.
 #[repr(C)]
 #[derive(Clone, Copy, Debug, Default, PartialEq, Eq)]
 pub struct Reading {
@@ -60,8 +61,8 @@ pub struct Reading {
     pub number: u32,
 }
 
-/// What the reads (kind 2) and checks (kind 9) of a replay found, over the records that it accepted, whatever stopped
-/// it. All of it is 0 for a replay that did not begin: 9, 1, 2, 3, 4.
+/// What the reads (kind 2) and checks (kind 9) of a replay found, over the records that it
+/// accepted, whatever stopped it. All of it is 0 for a replay that did not begin: 9, 1, 2, 3, 4.
 #[repr(C)]
 #[derive(Clone, Copy, Debug, Default, PartialEq, Eq)]
 pub struct Findings {

@@ -24,14 +24,15 @@ pub fn is_sound(state: State) -> bool {
     unsafe { raw::ofersky_is_sound(state) }
 }
 
-/// Reads a register, by its address or a mirror of it. Bit 6 of DP STATUS says that a word is queued. Refusals: 4, 10, 5.
+/// Reads a register, by its address or a mirror of it. Bit 6 of DP STATUS says that a word is
+/// queued. Refusals: 4, 10, 5.
 pub fn read_register(state: State, address: u32) -> Outcome {
     // SAFETY: no pointer is handed over, and every value gets an answer.
     unsafe { raw::ofersky_read_register(state, address) }
 }
 
-/// Writes a register, by its address or a mirror of it. A write to DP STATUS that sets FLUSH empties the queue, also where
-/// it is on already. Refusals: 4, 10, 5.
+/// Writes a register, by its address or a mirror of it. A write to DP STATUS that sets FLUSH
+/// empties the queue, also where it is on already. Refusals: 4, 10, 5.
 ///
 /// ```
 /// let refusal = |address| ofersky::write_register(ofersky::power_up(), address, 0).answer.number;
@@ -45,10 +46,10 @@ pub fn write_register(state: State, address: u32, value: u32) -> Outcome {
     unsafe { raw::ofersky_write_register(state, address, value) }
 }
 
-/// A burst: writes value k at address k, one pair after the other, each on the state that the last one left. It stops at the
-/// first pair that is refused, and what the pairs before it did stays done. The value is 0, the count the number of pairs
-/// written. Refusals: 11, where the lengths differ or are more than 64, and 4, both with nothing done; then those of a pair:
-/// 10, 5.
+/// A burst: writes value k at address k, one pair after the other, each on the state that the last
+/// one left. It stops at the first pair that is refused, and what the pairs before it did stays
+/// done. The value is 0, the count the number of pairs written. Refusals: 11, where the lengths
+/// differ or are more than 64, and 4, both with nothing done; then those of a pair: 10, 5.
 ///
 /// ```
 /// let (ramaddr, rdlen, outside) = (0x0404_0004, 0x0404_0008, 0x0404_0020);
@@ -66,12 +67,13 @@ pub fn write_register(state: State, address: u32, value: u32) -> Outcome {
 /// ```
 pub fn write_registers(state: State, addresses: &[u32], values: &[u32]) -> Outcome {
     let [a, v] = [addresses, values].map(shared);
-    // SAFETY: each pointer and length are of one slice, borrowed for the call, and nothing is written.
+    // SAFETY: each pointer and length are of one slice, borrowed for the call, and nothing is
+    // written.
     unsafe { raw::ofersky_write_registers(state, a.0, a.1, v.0, v.1) }
 }
 
-/// Adds to the clock; to the CMD_BUSY counter if a word is queued; and to the PIPE_BUSY counter if that flag is on.
-/// Refusal: 4.
+/// Adds to the clock; to the CMD_BUSY counter if a word is queued; and to the PIPE_BUSY counter if
+/// that flag is on. Refusal: 4.
 pub fn tick(state: State, n: u32) -> Outcome {
     // SAFETY: no pointer is handed over, and every value gets an answer.
     unsafe { raw::ofersky_tick(state, n) }
@@ -92,13 +94,15 @@ pub fn acknowledge(state: State) -> Outcome {
 /// One SP turn. Refusals: 1, 2, 3, 4.
 pub fn sp_turn(state: State, rdram: &mut [u8], dmem: &mut [u8], imem: &mut [u8]) -> Outcome {
     let [r, d, i] = [rdram, dmem, imem].map(lent);
-    // SAFETY: each pointer and length are of one slice, borrowed for the call, and a mutable borrow overlaps nothing.
+    // SAFETY: each pointer and length are of one slice, borrowed for the call, and a mutable borrow
+    // overlaps nothing.
     unsafe { raw::ofersky_sp_turn(state, r.0, r.1, d.0, d.1, i.0, i.1) }
 }
 
-/// Finishes the current row: LEN/8 + 1 SP turns in one call, or none if the engine is idle. Behind the last row a waiting transfer
-/// has started, and no word of it is moved. The value is 0, the count the number of words moved; those that read as zeros and those
-/// that are dropped count too. Refusals: 1, 2, 3, 4.
+/// Finishes the current row: LEN/8 + 1 SP turns in one call, or none if the engine is idle. Behind
+/// the last row a waiting transfer has started, and no word of it is moved. The value is 0, the
+/// count the number of words moved; those that read as zeros and those that are dropped count too.
+/// Refusals: 1, 2, 3, 4.
 ///
 /// ```
 /// let (mut rdram, mut dmem, mut imem) = ([1; 0x28], [2; 4096], [0; 4096]);
@@ -116,21 +120,23 @@ pub fn sp_turn(state: State, rdram: &mut [u8], dmem: &mut [u8], imem: &mut [u8])
 /// ```
 pub fn sp_row(state: State, rdram: &mut [u8], dmem: &mut [u8], imem: &mut [u8]) -> Outcome {
     let [r, d, i] = [rdram, dmem, imem].map(lent);
-    // SAFETY: each pointer and length are of one slice, borrowed for the call, and a mutable borrow overlaps nothing.
+    // SAFETY: each pointer and length are of one slice, borrowed for the call, and a mutable borrow
+    // overlaps nothing.
     unsafe { raw::ofersky_sp_row(state, r.0, r.1, d.0, d.1, i.0, i.1) }
 }
 
-/// One DP turn: fetches the word at CURRENT into the queue, if a list runs, FREEZE is off and fewer than 32 words are queued.
-/// The value is 0, the count 1 if it fetched. Refusals: 1, 2, 4.
+/// One DP turn: fetches the word at CURRENT into the queue, if a list runs, FREEZE is off and fewer
+/// than 32 words are queued. The value is 0, the count 1 if it fetched. Refusals: 1, 2, 4.
 pub fn dp_turn(state: State, rdram: &[u8], dmem: &[u8]) -> Outcome {
     let [r, d] = [rdram, dmem].map(shared);
-    // SAFETY: each pointer and length are of one slice, borrowed for the call, and nothing is written.
+    // SAFETY: each pointer and length are of one slice, borrowed for the call, and nothing is
+    // written.
     unsafe { raw::ofersky_dp_turn(state, r.0, r.1, d.0, d.1) }
 }
 
-/// One consumer turn: takes the oldest word from the queue, if there is one and FREEZE is off. The value is the word, the
-/// count 1; otherwise both are 0. Here the word counts for its command, and a SYNC_FULL turns PIPE_BUSY off and raises the
-/// DP line. Refusal: 4.
+/// One consumer turn: takes the oldest word from the queue, if there is one and FREEZE is off. The
+/// value is the word, the count 1; otherwise both are 0. Here the word counts for its command, and
+/// a SYNC_FULL turns PIPE_BUSY off and raises the DP line. Refusal: 4.
 ///
 /// ```
 /// // A list of one word, which begins a SYNC_FULL.
@@ -152,10 +158,11 @@ pub fn consumer_turn(state: State) -> Outcome {
     unsafe { raw::ofersky_consumer_turn(state) }
 }
 
-/// Rounds of SP turn, DP turn and consumer turn, each until its budget is used or it would do nothing, and the consumer's also
-/// until `out` has no room for a word. The run ends when none of the three would act: without room the DP still fetches
-/// until the queue is full, and the next run begins with those words. Where the SP writes bytes that are yet to be fetched,
-/// this order decides. Refusals: 1, 2, 3, 4.
+/// Rounds of SP turn, DP turn and consumer turn, each until its budget is used or it would do
+/// nothing, and the consumer's also until `out` has no room for a word. The run ends when none of
+/// the three would act: without room the DP still fetches until the queue is full, and the next run
+/// begins with those words. Where the SP writes bytes that are yet to be fetched, this order
+/// decides. Refusals: 1, 2, 3, 4.
 ///
 /// ```
 /// let (mut rdram, mut dmem, mut imem) = ([0; 64], [1; 4096], [0; 4096]);
@@ -182,7 +189,8 @@ pub fn run(
     out: &mut [u8],
 ) -> Ran {
     let [r, d, i, o] = [rdram, dmem, imem, out].map(lent);
-    // SAFETY: each pointer and length are of one slice, borrowed for the call, and a mutable borrow overlaps nothing.
+    // SAFETY: each pointer and length are of one slice, borrowed for the call, and a mutable borrow
+    // overlaps nothing.
     unsafe {
         raw::ofersky_run(
             state,
@@ -201,10 +209,12 @@ pub fn run(
     }
 }
 
-/// Where the word at CURRENT stands, which the next fetch takes, also while the queue is full; or an empty part.
+/// Where the word at CURRENT stands, which the next fetch takes, also while the queue is full; or
+/// an empty part.
 pub fn look_ahead(state: State, rdram: &[u8], dmem: &[u8]) -> Part {
     let [r, d] = [rdram, dmem].map(shared);
-    // SAFETY: each pointer and length are of one slice, borrowed for the call, and nothing is written.
+    // SAFETY: each pointer and length are of one slice, borrowed for the call, and nothing is
+    // written.
     unsafe { raw::ofersky_look_ahead(state, r.0, r.1, d.0, d.1) }
 }
 
@@ -215,17 +225,18 @@ pub fn next_word<'a>(state: State, rdram: &'a [u8], dmem: &'a [u8]) -> &'a [u8] 
     &memory[part.offset as usize..][..part.length as usize]
 }
 
-/// The record at a place of a recording, and the place after it. Refusals: 9, 7, 8, and then
-/// 10 and 5 for a register's address, 6 for one of memory.
+/// The record at a place of a recording, and the place after it. Refusals: 9, 7, 8, and then 10 and
+/// 5 for a register's address, 6 for one of memory.
 pub fn read_record(recording: &[u8], place: usize) -> Reading {
     let r = shared(recording);
-    // SAFETY: each pointer and length are of one slice, borrowed for the call, and nothing is written.
+    // SAFETY: each pointer and length are of one slice, borrowed for the call, and nothing is
+    // written.
     unsafe { raw::ofersky_read_record(r.0, r.1, place) }
 }
 
-/// Appends a record to a buffer from a place on; the value is the place after it, and no other byte changes.
-/// Of kinds 1 to 5 only the lower half of the value is written. Refusals: 7; 10, 5 or 6 as in reading; and then 14,
-/// where the record would end past the buffer or past 16,383 bytes.
+/// Appends a record to a buffer from a place on; the value is the place after it, and no other byte
+/// changes. Of kinds 1 to 5 only the lower half of the value is written. Refusals: 7; 10, 5 or 6 as
+/// in reading; and then 14, where the record would end past the buffer or past 16,383 bytes.
 ///
 /// ```
 /// use ofersky::{read_record, write_record, Record};
@@ -244,14 +255,16 @@ pub fn read_record(recording: &[u8], place: usize) -> Reading {
 /// ```
 pub fn write_record(item: Record, buffer: &mut [u8], place: usize) -> Answer {
     let b = lent(buffer);
-    // SAFETY: each pointer and length are of one slice, borrowed for the call, and a mutable borrow overlaps nothing.
+    // SAFETY: each pointer and length are of one slice, borrowed for the call, and a mutable borrow
+    // overlaps nothing.
     unsafe { raw::ofersky_write_record(item, b.0, b.1, place) }
 }
 
-/// Replays a recording and writes its listing to `out`. It stops at a record that is refused, and what the records before
-/// it did stays done. A record of kind 3 is a run with the budgets b, 0, 0; of kind 4 with 0, b, b; of kind 10 with a, b, b.
-/// Each has room for 256 words; words that are still queued then wait for the next run. Refusals: 9, 1, 2, 3, 4, and those
-/// of its records: 7, 8, 10, 5, 6.
+/// Replays a recording and writes its listing to `out`. It stops at a record that is refused, and
+/// what the records before it did stays done. A record of kind 3 is a run with the budgets b, 0, 0;
+/// of kind 4 with 0, b, b; of kind 10 with a, b, b. Each has room for 256 words; words that are
+/// still queued then wait for the next run. Refusals: 9, 1, 2, 3, 4, and those of its records: 7,
+/// 8, 10, 5, 6.
 ///
 /// ```
 /// let (mut rdram, mut dmem, mut imem) = ([0; 64], [0; 4096], [0; 4096]);
@@ -274,7 +287,8 @@ pub fn replay(
 ) -> Replayed {
     let s = shared(recording);
     let [r, d, i, o] = [rdram, dmem, imem, out].map(lent);
-    // SAFETY: each pointer and length are of one slice, borrowed for the call, and a mutable borrow overlaps nothing.
+    // SAFETY: each pointer and length are of one slice, borrowed for the call, and a mutable borrow
+    // overlaps nothing.
     unsafe { raw::ofersky_replay(state, s.0, s.1, r.0, r.1, d.0, d.1, i.0, i.1, o.0, o.1) }
 }
 

@@ -1,8 +1,9 @@
 //! Answers as `Result`, for `?`.
 //!
-//! Every call hands its input through and gives its whole answer. [`Checked::checked`] then sorts the answer by its
-//! number: `Ok` for 0, `Err` for any other. Both sides carry the whole answer, so nothing is lost: a burst that stops
-//! at a pair, or a replay that stops at a record, still has its state, its count and its listing.
+//! Every call hands its input through and gives its whole answer. [`Checked::checked`] then sorts
+//! the answer by its number: `Ok` for 0, `Err` for any other. Both sides carry the whole answer, so
+//! nothing is lost: a burst that stops at a pair, or a replay that stops at a record, still has its
+//! state, its count and its listing.
 //!
 //! ```
 //! use ofersky::checked::{Checked, Refused};

@@ -1,5 +1,5 @@
-//! The sizes and offsets of the structs that cross to the library, by C's rules for x86-64. A struct that is laid out in
-//! another way does not compile.
+//! The sizes and offsets of the structs that cross to the library, by C's rules for x86-64. A
+//! struct that is laid out in another way does not compile.
 
 use crate::{Answer, DpState, Findings, Outcome, Part, Ran, Reading, Record, Replayed, SpState};
 use crate::{State, QUEUE_WORDS};

@@ -1,5 +1,5 @@
-//! The functions of the static library. The compiler cannot check these declarations against the library: the comparison
-//! with the model calls each of them.
+//! The functions of the static library. The compiler cannot check these declarations against the
+//! library: the comparison with the model calls each of them.
 
 use crate::{Answer, Outcome, Part, Ran, Reading, Record, Replayed, State};
 

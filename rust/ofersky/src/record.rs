@@ -1,14 +1,16 @@
 //! Records of a recording.
 
-/// A record. `value` is the second field of kinds 1, 2, 8 and 9, and the only field of kinds 3, 4 and 5; of kind 10 its
-/// upper half is the SP's budget and its lower half the budget of the DP and of the consumer. A field that a kind does
-/// not have is 0 in a record that was read, and is ignored in one that is written.
+/// A record. `value` is the second field of kinds 1, 2, 8 and 9, and the only field of kinds 3, 4
+/// and 5; of kind 10 its upper half is the SP's budget and its lower half the budget of the DP and
+/// of the consumer. A field that a kind does not have is 0 in a record that was read, and is
+/// ignored in one that is written.
 #[repr(C)]
 #[derive(Clone, Copy, Debug, Default, PartialEq, Eq)]
 pub struct Record {
     /// The value written or expected, the budget, the ticks, or the word.
     pub value: u64,
-    /// The address of a register, or of memory: RDRAM from 0 on, [`RECORD_DMEM`] and [`RECORD_IMEM`].
+    /// The address of a register, or of memory: RDRAM from 0 on, [`RECORD_DMEM`] and
+    /// [`RECORD_IMEM`].
     pub address: u32,
     /// A byte, so that a record of an unknown kind can be handed over, too; [`Kind`] has the names.
     pub kind: u8,
@@ -41,7 +43,8 @@ pub enum Kind {
     Store = 8,
     /// Reads a word of memory and compares: address, expected word.
     Check = 9,
-    /// A run of all three: the SP's budget in the upper half, that of the DP and the consumer in the lower.
+    /// A run of all three: the SP's budget in the upper half, that of the DP and the consumer in
+    /// the lower.
     Run = 10,
 }
 

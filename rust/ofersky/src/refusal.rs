@@ -49,8 +49,8 @@ impl Refusal {
         Refusal::NoRoom,
     ];
 
-    /// The refusal with this number. There is none for 0, which is success, and for numbers that the library does not
-    /// give.
+    /// The refusal with this number. There is none for 0, which is success, and for numbers that
+    /// the library does not give.
     pub fn from_number(number: u32) -> Option<Refusal> {
         Refusal::ALL.into_iter().find(|r| r.number() == number)
     }

@@ -1,4 +1,5 @@
-//! The addresses of the registers. Those of the DP are mirrored every [`DP_MIRROR_BYTES`] bytes, up to `0x041F_FFFC`.
+//! The addresses of the registers. Those of the DP are mirrored every [`DP_MIRROR_BYTES`] bytes, up
+//! to `0x041F_FFFC`.
 
 /// Where the next transfer begins in DMEM or, with bit 12, in IMEM.
 pub const SP_SPADDR: u32 = 0x0404_0000;

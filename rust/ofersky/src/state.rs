@@ -1,6 +1,7 @@
 //! The state of the machine. Its layout is the library's: fields go by position.
 
-/// The registers of the SP engine. A flag is a byte, 0 or 1; a state with any other byte there is not sound.
+/// The registers of the SP engine. A flag is a byte, 0 or 1; a state with any other byte there is
+/// not sound.
 #[repr(C)]
 #[derive(Clone, Copy, Debug, Default, PartialEq, Eq)]
 pub struct SpState {
@@ -76,7 +77,8 @@ pub struct DpState {
     pub freeze: u8,
     /// FLUSH of STATUS.
     pub flush: u8,
-    /// PIPE_BUSY of STATUS: a word that is fetched turns it on; a SYNC_FULL that is consumed turns it off.
+    /// PIPE_BUSY of STATUS: a word that is fetched turns it on; a SYNC_FULL that is consumed turns
+    /// it off.
     pub pipe_busy: u8,
     /// No flag: the words left of the command that is being consumed.
     pub words_left: u8,
@@ -93,9 +95,9 @@ pub const QUEUE_WORDS: usize = 32;
 
 /// Both engines, and the words that were fetched and not yet consumed.
 ///
-/// `queue` is a ring: the oldest word is in slot `dp.head`, the next in the slot after it, and slot 0 comes after the
-/// last. [`State::queued_words`] gives them in order. `dp.head` and the slots without a queued word are representation:
-/// no answer depends on them, but `==` sees them.
+/// `queue` is a ring: the oldest word is in slot `dp.head`, the next in the slot after it, and slot
+/// 0 comes after the last. [`State::queued_words`] gives them in order. `dp.head` and the slots
+/// without a queued word are representation: no answer depends on them, but `==` sees them.
 #[repr(C)]
 #[derive(Clone, Copy, Debug, Default, PartialEq, Eq)]
 pub struct State {
@@ -108,7 +110,8 @@ pub struct State {
 }
 
 impl State {
-    /// The queued words, the oldest first. Of a state that is not sound they are at most [`QUEUE_WORDS`], too.
+    /// The queued words, the oldest first. Of a state that is not sound they are at most
+    /// [`QUEUE_WORDS`], too.
     pub fn queued_words(&self) -> impl Iterator<Item = u64> + '_ {
         let from = usize::from(self.dp.head);
         let queued = usize::from(self.dp.queued).min(QUEUE_WORDS);

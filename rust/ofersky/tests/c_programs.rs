@@ -1,5 +1,5 @@
-//! The C programs and the header: compiled without a warning, linked with the library and run. The header is tried as C++
-//! too. Where the machine has no compiler, the tests say so and are skipped.
+//! The C programs and the header: compiled without a warning, linked with the library and run. The
+//! header is tried as C++ too. Where the machine has no compiler, the tests say so and are skipped.
 
 mod common;
 
@@ -106,7 +106,8 @@ fn every_call_answers_c_and_messages_are_the_same() {
     println!("C: {line}");
 }
 
-/// The exports of the library's source, each of which C and Rust must declare and a program in C must call.
+/// The exports of the library's source, each of which C and Rust must declare and a program in C
+/// must call.
 #[test]
 fn every_export_is_declared_and_called() {
     let folder = path("crates/ofersky/src");

@@ -19,7 +19,8 @@ fn first_writes_what_readme_says() {
     assert_eq!(stdout(&output), "2 words moved, byte 7 of DMEM is 42\n");
 }
 
-/// The listing, the line and the status for a shipped recording. They are those of `replay`, in other words.
+/// The listing, the line and the status for a shipped recording. They are those of `replay`, in
+/// other words.
 fn judged(name: &str, summary: &str, status: i32) {
     let output = run(
         &example("judge"),

@@ -37,7 +37,8 @@ impl Commands {
     }
 }
 
-/// Fills memory with commands whose opcodes come in no order; bits 7 and 6 of a first byte do not count.
+/// Fills memory with commands whose opcodes come in no order; bits 7 and 6 of a first byte do not
+/// count.
 pub fn fill_list(bytes: &mut [u8], commands: Commands) {
     let mut random = Random::new(SEED);
     random.fill(bytes);
@@ -88,7 +89,8 @@ impl Lists {
         }
     }
 
-    /// As many lists as there is room for, no two alike: what the processor has seen of one does not help it with the next.
+    /// As many lists as there is room for, no two alike: what the processor has seen of one does
+    /// not help it with the next.
     fn many(words: usize, commands: Commands) -> Lists {
         let starts = (0..SIZES[4]).step_by(words).map(|at| LIST + 8 * at);
         Lists {

@@ -31,7 +31,8 @@ const END: u32 = 0x0410_0004;
 const CURRENT: u32 = 0x0410_0008;
 const DP_STATUS: u32 = 0x0410_000C;
 
-/// What ours may take of the time before where it is to be no slower. One library in both places comes to 1.04, if nothing disturbs all rounds of a line.
+/// What ours may take of the time before where it is to be no slower. One library in both places
+/// comes to 1.04, if nothing disturbs all rounds of a line.
 const NO_SLOWER: f64 = 1.05;
 
 /// The lines of the SP alone, as they are measured.

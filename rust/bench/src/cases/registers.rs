@@ -1,4 +1,5 @@
-//! Register reads and writes, each a call of its own. Most of such a call is the state that goes in and comes back.
+//! Register reads and writes, each a call of its own. Most of such a call is the state that goes in
+//! and comes back.
 
 use super::{Words, CURRENT, DP_STATUS, END, RAMADDR, RDLEN, SPADDR, SP_STATUS, START};
 use crate::buffers::{Buffers, Start};

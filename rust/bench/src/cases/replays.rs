@@ -10,7 +10,8 @@ use random::Random;
 
 const RDRAM: usize = 32_768;
 
-/// Groups of 24 records in 200 bytes, with a run of each engine; and the last of 23 records in 199 bytes, with runs of both.
+/// Groups of 24 records in 200 bytes, with a run of each engine; and the last of 23 records in 199
+/// bytes, with runs of both.
 pub const GROUPS: [(usize, Runs); 3] = [(7, Runs::OfEach), (70, Runs::OfEach), (70, Runs::OfBoth)];
 
 /// Whether each engine has a run of its own.
@@ -32,7 +33,8 @@ impl Runs {
 /// The budget of every run.
 const BUDGET: [u8; 4] = 100u32.to_be_bytes();
 
-/// A recording in the making, and the machine that it leads to: reads and checks expect what is there.
+/// A recording in the making, and the machine that it leads to: reads and checks expect what is
+/// there.
 struct Recorder {
     bytes: Vec<u8>,
     records: usize,
@@ -89,7 +91,8 @@ impl Recorder {
         self.record(9, &[&address.to_be_bytes(), &found]);
     }
 
-    /// Stores six words, loads or stores eight by the SP, fetches the six by the DP, and looks at what it did.
+    /// Stores six words, loads or stores eight by the SP, fetches the six by the DP, and looks at
+    /// what it did.
     fn group(&mut self, random: &mut Random, runs: Runs) {
         let ram = 8 * random.below(RDRAM as u32 / 8 - 8);
         let offset = 8 * random.index(504);

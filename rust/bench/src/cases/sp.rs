@@ -136,7 +136,8 @@ impl Transfer {
         done
     }
 
-    /// In plain Rust: the whole transfer, or row by row. A row finds the machine in memory, as a lone call would.
+    /// In plain Rust: the whole transfer, or row by row. A row finds the machine in memory, as a
+    /// lone call would.
     fn done(
         &self,
         whole: impl Fn(&mut Sp, &mut Buffers) -> u32,

@@ -39,7 +39,8 @@ impl Kind {
 struct Turns {
     name: String,
     kind: Kind,
-    /// Where fetches alone begin anew, because the queue is full; and consumer turns alone, because it is empty.
+    /// Where fetches alone begin anew, because the queue is full; and consumer turns alone, because
+    /// it is empty.
     starts: Vec<Start>,
 }
 

@@ -1,4 +1,5 @@
-//! Recordings written record by record, each by a call of its own. The cost of a record must not grow with the recording.
+//! Recordings written record by record, each by a call of its own. The cost of a record must not
+//! grow with the recording.
 
 use super::replays::{recording, Runs, GROUPS};
 use crate::buffers::Buffers;

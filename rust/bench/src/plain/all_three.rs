@@ -4,7 +4,8 @@ use super::dp::Rest;
 use super::{Bank, Machine};
 
 impl Machine {
-    /// SP turn, fetch, consumer turn and so on, while the SP and another act; then the rest of those that are left. Gives the words moved and consumed.
+    /// SP turn, fetch, consumer turn and so on, while the SP and another act; then the rest of
+    /// those that are left. Gives the words moved and consumed.
     pub fn run(
         &mut self,
         [sp_budget, dp_budget, consumer_budget]: [u32; 3],

@@ -1,4 +1,5 @@
-//! The same two engines in plain Rust, written for speed: a machine that is changed in place, with no check of a call's input and no proof.
+//! The same two engines in plain Rust, written for speed: a machine that is changed in place, with
+//! no check of a call's input and no proof.
 
 mod all_three;
 pub mod dp;
@@ -15,7 +16,8 @@ use sp::Sp;
 /// A bank has a fixed size, so that an offset cut to it needs no bounds check.
 pub type Bank = [u8; 4096];
 
-/// The slots of the queue. Where the oldest word stands and how many there are is told by registers of the DP.
+/// The slots of the queue. Where the oldest word stands and how many there are is told by registers
+/// of the DP.
 pub type Ring = [u64; SLOTS];
 
 pub const SLOTS: usize = 32;
@@ -27,7 +29,8 @@ pub struct Machine {
     pub queue: Ring,
 }
 
-/// What a call leaves: the machine; the words moved or the records done; and the words consumed by a run.
+/// What a call leaves: the machine; the words moved or the records done; and the words consumed by
+/// a run.
 #[derive(Clone, Copy, Default)]
 pub struct Ran {
     pub machine: Machine,

@@ -8,7 +8,8 @@ fn bit(word: u32, n: u32) -> bool {
     word >> n & 1 == 1
 }
 
-/// A flag after a write with its clear bit at n and its set bit above; both together have no effect.
+/// A flag after a write with its clear bit at n and its set bit above; both together have no
+/// effect.
 fn write_pair(flag: &mut bool, word: u32, n: u32) {
     match word >> n & 3 {
         1 => *flag = false,

@@ -111,8 +111,9 @@ impl Sp {
         self.run(self.row_words(), rdram, dmem, imem)
     }
 
-    /// The rest of the row as an emulator's DMA moves it: word by word, with the offset cut to the bank and a test of the RDRAM address, and the registers only at
-    /// the end. Gives the words moved.
+    /// The rest of the row as an emulator's DMA moves it: word by word, with the offset cut to the
+    /// bank and a test of the RDRAM address, and the registers only at the end. Gives the words
+    /// moved.
     #[inline]
     pub fn dma_row(&mut self, rdram: &mut [u8], dmem: &mut Bank, imem: &mut Bank) -> u32 {
         let words = self.row_words();
