@@ -1,4 +1,3 @@
-pub mod Version
 pub mod States
 pub mod Records
 pub mod Parts
