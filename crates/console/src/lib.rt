@@ -1,4 +1,6 @@
 // What the programs share: a recording comes in by a file descriptor, is replayed from power-up, and is summed up in one line.
+#![tactic(auto)]
+
 ghost use Rattle.io.specs.Counts.{IsPrefixLen};
 ghost use Rattle.words.specs.Memory.{memory};
 ghost use Rattle.listing.specs.Put.{Put};
@@ -11,14 +13,14 @@ use playback::{Replayed, Verdict};
 use player::{replay, verdict};
 
 // How many bytes came in, and whether a read failed before the end.
-#[derive(Drop)]
+#[derive(Clone, Copy)]
 pub struct Input {
     pub length: usize,
     pub failed: bool,
 }
 
 // How many bytes the listing has, and the line that sums it up.
-#[derive(Drop)]
+#[derive(Clone, Copy)]
 pub struct Report {
     pub listing: usize,
     pub summary: usize,

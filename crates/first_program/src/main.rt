@@ -1,4 +1,6 @@
 // A first program over the public calls: a transfer of two words, and its answer.
+#![tactic(auto)]
+
 use libc::STDOUT_FILENO;
 
 fn main() {

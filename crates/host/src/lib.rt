@@ -1,11 +1,13 @@
 // The calls as host programs see them: structs of numbers and bytes that C and Rust can lay out. The definitions are in specs/; `ofersky` has the code.
+#![tactic(auto)]
+
 use machine::Answer;
 use playback::Findings;
 use recording::Fields;
 
 // The registers of the SP engine. A flag is a byte, 0 or 1; any other byte makes the state unsound.
 #[repr(C)]
-#[derive(Drop)]
+#[derive(Clone, Copy)]
 pub struct HostSp {
     pub splatch: u32,
     pub ramlatch: u32,
@@ -32,7 +34,7 @@ pub struct HostSp {
 
 // The registers of the DP engine.
 #[repr(C)]
-#[derive(Drop)]
+#[derive(Clone, Copy)]
 pub struct HostDp {
     pub start: u32,
     pub end: u32,
@@ -57,7 +59,7 @@ pub struct HostDp {
 }
 
 #[repr(C)]
-#[derive(Drop)]
+#[derive(Clone, Copy)]
 pub struct HostState {
     pub sp: HostSp,
     pub dp: HostDp,
@@ -66,7 +68,7 @@ pub struct HostState {
 }
 
 #[repr(C)]
-#[derive(Drop)]
+#[derive(Clone, Copy)]
 pub struct HostOutcome {
     pub state: HostState,
     pub answer: Answer,
@@ -74,7 +76,7 @@ pub struct HostOutcome {
 
 // What a run gives: the answer's count is the SP's, and `words` is the consumer's.
 #[repr(C)]
-#[derive(Drop)]
+#[derive(Clone, Copy)]
 pub struct HostRan {
     pub outcome: HostOutcome,
     pub words: u32,
@@ -82,7 +84,7 @@ pub struct HostRan {
 
 // Where the next drawing word stands: in RDRAM (memory 0) or in DMEM (memory 1), from an offset on. The length is 8, or 0 for an empty part.
 #[repr(C)]
-#[derive(Drop)]
+#[derive(Clone, Copy)]
 pub struct HostPart {
     pub memory: u32,
     pub offset: u32,
@@ -91,7 +93,7 @@ pub struct HostPart {
 
 // What the reader answers, with the record by its kind and fields.
 #[repr(C)]
-#[derive(Drop)]
+#[derive(Clone, Copy)]
 pub struct HostReading {
     pub item: Fields,
     pub place: usize,
@@ -101,7 +103,7 @@ pub struct HostReading {
 // What a replay gives: how many bytes of the listing were written, the place where the declined record begins, 0 if there is none, and what its reads
 // and checks found.
 #[repr(C)]
-#[derive(Drop)]
+#[derive(Clone, Copy)]
 pub struct HostReplayed {
     pub outcome: HostOutcome,
     pub written: usize,

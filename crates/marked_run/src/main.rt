@@ -1,6 +1,8 @@
 // Drives the machine through the twelve marked examples by its public calls, and prints what it reads: a line for each example, numbers in
 // hexadecimal. The expected output holds the values that the rules give, and request (iii) for M8 to M10. In M9 and M11 a turn is a fetch and a consumer
 // turn; in M12 it is a fetch.
+#![tactic(auto)]
+
 use libc::STDOUT_FILENO;
 use machine::{Outcome, State};
 

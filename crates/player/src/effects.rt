@@ -17,7 +17,7 @@ use recording::Record;
 use runs::run;
 
 // The state after a record, and the place after its line; whether it compared what it found, and whether that differed.
-#[derive(Drop)]
+#[derive(Clone, Copy)]
 pub struct Progress {
     pub state: State,
     pub place: usize,

@@ -1,4 +1,6 @@
 // The reader of recordings.
+#![tactic(auto)]
+
 mod fields; // fields.rt: the bytes of a record, and the record that they make
 mod records; // records.rt: the checks of a record, and the reader
 

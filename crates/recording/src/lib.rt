@@ -1,9 +1,10 @@
 // Recordings: the records that they hold, and what a reader and a writer answer. The definitions are in specs/; `reader` and `writer` have the code.
+#![tactic(auto)]
 
 // One record. An address is the raw 32 bits that stand in the recording. `Run` is a merged run, with the SP's budget and then the DP's, which the
 // consumer has too.
 // `None` is no record: a declined reading gives it.
-#[derive(Drop)]
+#[derive(Clone, Copy)]
 pub enum Record {
     None,
     Write(u32, u32),
@@ -22,7 +23,7 @@ pub enum Record {
 // only one of kinds 3, 4 and 5. In kinds 1 to 5 it has 32 bits: the writer leaves the upper half out. Kind 10 has both budgets in it, the SP's in the
 // upper half and the DP's in the lower half. Every byte can stand as the kind; known are 1 to 10.
 #[repr(C)]
-#[derive(Drop)]
+#[derive(Clone, Copy)]
 pub struct Fields {
     pub value: u64,
     pub address: u32,
@@ -30,7 +31,7 @@ pub struct Fields {
 }
 
 // What the reader answers: 0, the record and the place after it; or the number of the first check that failed, no record and place 0.
-#[derive(Drop)]
+#[derive(Clone, Copy)]
 pub struct Reading {
     pub number: u32,
     pub item: Record,

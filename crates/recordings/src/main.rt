@@ -1,5 +1,7 @@
 // Replays recordings and compares each listing with the one expected. The arguments are file names in pairs: a recording, and its listing. A line is
 // written for each pair: the recording's name, `same` or `differs` and the line that sums the replay up, or `missing`.
+#![tactic(auto)]
+
 use libc::STDOUT_FILENO;
 
 // Whether the recording in one file gives the listing in another; and the line that sums it up.

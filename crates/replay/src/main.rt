@@ -1,5 +1,7 @@
 // Replays the recording on standard input, from power-up over memory that starts as zeros. The listing goes to standard output, and then, if all of it
 // was taken, the line that sums it up to standard error: no line, no verdict. Where the recording cannot be read, that is all it says.
+#![tactic(auto)]
+
 use libc::{STDERR_FILENO, STDIN_FILENO, STDOUT_FILENO};
 
 fn main() {

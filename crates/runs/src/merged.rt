@@ -103,7 +103,7 @@ fn ahead(
 }
 
 // Where a run stands once the SP's turn is passed over.
-#[derive(Drop)]
+#[derive(Clone, Copy)]
 struct Stood {
     sp: SpState,
     dp: DpState,
