@@ -1,0 +1,5 @@
+use borrow.Author.Rules.{rules}
+use Rattle.dp.proofs.DpState.fetches.Goals as goal
+
+pub returns : goal.returns
+returns c = cc

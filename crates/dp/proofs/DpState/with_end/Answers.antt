@@ -1,0 +1,5 @@
+use borrow.Author.Rules.{rules}
+use Rattle.dp.proofs.DpState.with_end.Goals as goal
+
+pub returns : goal.returns
+returns c = cc
