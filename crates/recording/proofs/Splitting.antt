@@ -117,8 +117,8 @@ abbrev OnFrom : List ℕ → ℕ → Type 0
 OnFrom s at = ReadOn s at (split_at at s).items (split_at at s).place (split_at at s).number
 
 module _ (s : List ℕ) (at : ℕ) where
-  at_end : at ≡ length s → OnFrom s at
-  at_end e = rw (e, split_none s (length s) (omega arith)) at_end
+  at_end_lem : at ≡ length s → OnFrom s at
+  at_end_lem e = rw (e, split_none s (length s) (omega arith)) at_end
 
   at_declined : (n : ℕ) → length s ≤ longest → at < length s → (read_record s at).number ≡ suc n → OnFrom s at
   at_declined n h l e =
@@ -135,7 +135,7 @@ module _ (s : List ℕ) (at : ℕ) where
   at_place : length s ≤ longest → at ≤ length s → ((read_record s at).number ≡ 0 → OnFrom s (read_record s at).place) → OnFrom s at
   at_place h b more =
       by (ltb at (length s)) (λ l. go (read_record s at).number refl (ltb-true at (length s) l))
-      (λ l. at_end (omega (arith, ltb-false at (length s) l)))
+      (λ l. at_end_lem (omega (arith, ltb-false at (length s) l)))
     where
       go : (n : ℕ) → (read_record s at).number ≡ n → at < length s → OnFrom s at
       go zero e l = at_record h l e (more e)
@@ -143,7 +143,7 @@ module _ (s : List ℕ) (at : ℕ) where
 
 -- With at least as many steps as there are bytes left
 on_from : (fuel : ℕ) (s : List ℕ) (at : ℕ) → length s ≤ longest → at ≤ length s → length s ≤ at + fuel → OnFrom s at
-on_from zero s at h b f = at_end s at (omega arith)
+on_from zero s at h b f = at_end_lem s at (omega arith)
 on_from (suc fuel) s at h b f =
     at_place s at h b
     (λ e.
