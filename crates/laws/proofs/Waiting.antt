@@ -78,6 +78,7 @@ takes_length Unmapped = false
 
 -- Two functions that agree on a list agree on each of its elements
 same_on : {A : Type 0} (f g : ℕ → A) (l : List ℕ) (a : ℕ) → map f l ≡ map g l → Memᴰ a l → f a ≡ g a
+same_on {A = A} f g [] a e h = elim h [ ]
 same_on f g (x ∷ l) a e (Memᴰ.head p) = ap f p ∙ ap (λ k. get_or k 0 (f x)) e ∙ ap g (sym p)
 same_on f g (x ∷ l) a e (Memᴰ.tail h) = same_on f g l a (ap (drop 1) e) h
 
@@ -666,13 +667,13 @@ after_goes_on (suc n) s h b more =
 
 -- ---- Turns of the same transfer
 
-in_row : (s : SpState) → s.busy ≡ true → 0 < s.len → sp_next s ≡ next_word s
+in_row_lem : (s : SpState) → s.busy ≡ true → 0 < s.len → sp_next s ≡ next_word s
 unfolding sp_next
-in_row s b l = rw (b, lt-ltb 0 s.len l)
+in_row_lem s b l = rw (b, lt-ltb 0 s.len l)
 
-end_of_row : (s : SpState) → s.busy ≡ true → s.len ≡ 0 → 0 < s.count → sp_next s ≡ next_row s
+end_of_row_lem : (s : SpState) → s.busy ≡ true → s.len ≡ 0 → 0 < s.count → sp_next s ≡ next_row s
 unfolding sp_next
-end_of_row s b l c = rw (b, le-ltb 0 s.len (omega arith), lt-ltb 0 s.count c)
+end_of_row_lem s b l c = rw (b, le-ltb 0 s.len (omega arith), lt-ltb 0 s.count c)
 
 same_word : (s t : SpState) → SameTransfer s t → SameTransfer (next_word s) (next_word t)
 unfolding next_word
@@ -712,8 +713,8 @@ same_next s t h b more p = go (cases s)
 
     go : Case s → SameTransfer (sp_next s) (sp_next t)
     go (idle i e) = contradiction b i
-    go (in_row i l e) = rw (e, in_row t busy (omega (arith, p.len))) (same_word s t p)
-    go (end_of_row i l c e) = rw (e, end_of_row t busy (omega (arith, p.len)) (omega (arith, p.count))) (same_row s t p)
+    go (in_row i l e) = rw (e, in_row_lem t busy (omega (arith, p.len))) (same_word s t p)
+    go (end_of_row i l c e) = rw (e, end_of_row_lem t busy (omega (arith, p.len)) (omega (arith, p.count))) (same_row s t p)
     go (starts i l c f e) = not_last l c
     go (ends i l c f e) = not_last l c
 

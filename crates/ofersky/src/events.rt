@@ -5,7 +5,7 @@ ghost use Rattle.machine.specs.Calls.{read_register, write_register, tick, break
 ghost use Rattle.machine.specs.Turns.{consumer_turn};
 ghost use Rattle.host.specs.States.{decoded, encoded, handed};
 
-use crate::states::{decoded, encoded, flags, handed};
+use crate::states::{decoded, encoded, handed};
 use host::{HostOutcome, HostState};
 
 #[unsafe(no_mangle)]
@@ -19,58 +19,47 @@ pub extern "C" fn ofersky_power_up() -> HostState
 pub extern "C" fn ofersky_is_sound(s: HostState) -> bool
     ensures { result ≡ sound (decoded s) }
 {
-    let ok = flags(s);
-    checks::is_sound(decoded(ok, s))
+    checks::is_sound(decoded(s))
 }
 
 #[unsafe(no_mangle)]
 pub extern "C" fn ofersky_read_register(s: HostState, address: u32) -> HostOutcome
     ensures { result ≡ handed s (read_register (decoded s) address) }
 {
-    let ok = flags(s);
-    handed(ok, s, access::read_register(decoded(ok, s), address))
+    handed(s, access::read_register(decoded(s), address))
 }
 
 #[unsafe(no_mangle)]
 pub extern "C" fn ofersky_write_register(s: HostState, address: u32, value: u32) -> HostOutcome
     ensures { result ≡ handed s (write_register (decoded s) address value) }
 {
-    let ok = flags(s);
-    handed(
-        ok,
-        s,
-        access::write_register(decoded(ok, s), address, value),
-    )
+    handed(s, access::write_register(decoded(s), address, value))
 }
 
 #[unsafe(no_mangle)]
 pub extern "C" fn ofersky_tick(s: HostState, n: u32) -> HostOutcome
     ensures { result ≡ handed s (tick (decoded s) n) }
 {
-    let ok = flags(s);
-    handed(ok, s, access::tick(decoded(ok, s), n))
+    handed(s, access::tick(decoded(s), n))
 }
 
 #[unsafe(no_mangle)]
 pub extern "C" fn ofersky_sp_break(s: HostState) -> HostOutcome
     ensures { result ≡ handed s (break (decoded s)) }
 {
-    let ok = flags(s);
-    handed(ok, s, access::sp_break(decoded(ok, s)))
+    handed(s, access::sp_break(decoded(s)))
 }
 
 #[unsafe(no_mangle)]
 pub extern "C" fn ofersky_acknowledge(s: HostState) -> HostOutcome
     ensures { result ≡ handed s (acknowledge (decoded s)) }
 {
-    let ok = flags(s);
-    handed(ok, s, access::acknowledge(decoded(ok, s)))
+    handed(s, access::acknowledge(decoded(s)))
 }
 
 #[unsafe(no_mangle)]
 pub extern "C" fn ofersky_consumer_turn(s: HostState) -> HostOutcome
     ensures { result ≡ handed s (consumer_turn (decoded s)) }
 {
-    let ok = flags(s);
-    handed(ok, s, engines::consumer_turn(decoded(ok, s)))
+    handed(s, engines::consumer_turn(decoded(s)))
 }

@@ -9,7 +9,7 @@ ghost use Rattle.bursts.specs.Bursts.{write_registers};
 ghost use Rattle.host.specs.States.{decoded, handed, ran_handed};
 ghost use Rattle.host.specs.Parts.{placed, part_handed};
 
-use crate::states::{decoded, flags, handed};
+use crate::states::{decoded, handed};
 use host::{HostOutcome, HostPart, HostRan, HostState};
 use words::fields::pick;
 
@@ -23,12 +23,7 @@ pub extern "C" fn ofersky_write_registers(
     ensures outcome { result ≡ handed s (write_registers (decoded s) addresses.now values.now) }
     ensures kept { (addresses.now ≡ addresses.now) × (values.now ≡ values.now) }
 {
-    let ok = flags(s);
-    handed(
-        ok,
-        s,
-        access::write_registers(decoded(ok, s), addresses, values),
-    )
+    handed(s, access::write_registers(decoded(s), addresses, values))
 }
 
 #[unsafe(no_mangle)]
@@ -42,8 +37,7 @@ pub extern "C" fn ofersky_sp_turn(
     ensures bytes { memory rdram.new dmem.new imem.new
         ≡ sp_turn_memory (decoded s) (memory rdram.old dmem.old imem.old) }
 {
-    let ok = flags(s);
-    handed(ok, s, engines::sp_turn(decoded(ok, s), rdram, dmem, imem))
+    handed(s, engines::sp_turn(decoded(s), rdram, dmem, imem))
 }
 
 #[unsafe(no_mangle)]
@@ -57,8 +51,7 @@ pub extern "C" fn ofersky_sp_row(
     ensures bytes { memory rdram.new dmem.new imem.new
         ≡ sp_row_memory (decoded s) (memory rdram.old dmem.old imem.old) }
 {
-    let ok = flags(s);
-    handed(ok, s, engines::sp_row(decoded(ok, s), rdram, dmem, imem))
+    handed(s, engines::sp_row(decoded(s), rdram, dmem, imem))
 }
 
 #[unsafe(no_mangle)]
@@ -66,8 +59,7 @@ pub extern "C" fn ofersky_dp_turn(s: HostState, rdram: &[u8], dmem: &[u8]) -> Ho
     ensures outcome { result ≡ handed s (dp_turn (decoded s) rdram.now dmem.now) }
     ensures kept { (rdram.now ≡ rdram.now) × (dmem.now ≡ dmem.now) }
 {
-    let ok = flags(s);
-    handed(ok, s, engines::dp_turn(decoded(ok, s), rdram, dmem))
+    handed(s, engines::dp_turn(decoded(s), rdram, dmem))
 }
 
 #[unsafe(no_mangle)]
@@ -88,9 +80,8 @@ pub extern "C" fn ofersky_run(
     ensures output { out.new
         ≡ (end_of_run (decoded s) spbudget dpbudget consumerbudget (memory rdram.old dmem.old imem.old) out.old).out }
 {
-    let ok = flags(s);
     let ran = runs::run(
-        decoded(ok, s),
+        decoded(s),
         spbudget,
         dpbudget,
         consumerbudget,
@@ -101,7 +92,7 @@ pub extern "C" fn ofersky_run(
     );
     let done = ran.outcome;
     HostRan {
-        outcome: handed(ok, s, done),
+        outcome: handed(s, done),
         words: ran.words,
     }
 }
@@ -133,8 +124,7 @@ pub extern "C" fn ofersky_look_ahead<'a>(s: HostState, rdram: &'a [u8], dmem: &'
     ensures part { result ≡ part_handed (look (decoded s) rdram.now dmem.now) }
     ensures kept { (rdram.now ≡ rdram.now) × (dmem.now ≡ dmem.now) }
 {
-    let ok = flags(s);
-    let state = decoded(ok, s);
+    let state = decoded(s);
     let n = engines::look_ahead(state, rdram, dmem).len();
     let dp = state.dp;
     part_at(dp.xbus, dp.current, n)

@@ -8,7 +8,7 @@ ghost use Rattle.host.specs.Records.{reading_handed};
 ghost use Rattle.host.specs.Promised.{HostReplayGives, host_verdict};
 ghost use Rattle.playback.specs.Verdict.{code_of};
 
-use crate::states::{decoded, flags, handed};
+use crate::states::{decoded, handed};
 use host::{HostReading, HostReplayed, HostState};
 use machine::Answer;
 use playback::Verdict;
@@ -49,10 +49,9 @@ pub extern "C" fn ofersky_replay(
     ensures { HostReplayGives s recording.now (memory rdram.old dmem.old imem.old) out.old result
         recording.now (memory rdram.new dmem.new imem.new) out.new }
 {
-    let ok = flags(s);
-    let done = player::replay(decoded(ok, s), recording, rdram, dmem, imem, out);
+    let done = player::replay(decoded(s), recording, rdram, dmem, imem, out);
     let left = done.outcome;
-    let outcome = handed(ok, s, left);
+    let outcome = handed(s, left);
     let findings = done.findings;
     HostReplayed {
         outcome,

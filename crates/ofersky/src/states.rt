@@ -36,7 +36,7 @@ fn dp_flags(h: HostDp) -> bool
 }
 
 // Every flag is 0 or 1.
-pub(crate) fn flags(h: HostState) -> bool
+fn flags(h: HostState) -> bool
     ensures { result ≡ flags h }
 {
     let sp = h.sp;
@@ -110,12 +110,11 @@ fn unsound() -> State
     }
 }
 
-// The state that a call is made on; an unsound one where a flag is neither 0 nor 1. `ok` is what `flags` gave: it is passed, here and to
-// `handed`, so that a call tests the flags once.
-pub(crate) fn decoded(ok: bool, h: HostState) -> State
-    ensures { ok ≡ flags h → result ≡ decoded h }
+// The state that a call is made on; an unsound one where a flag is neither 0 nor 1.
+pub(crate) fn decoded(h: HostState) -> State
+    ensures { result ≡ decoded h }
 {
-    if ok {
+    if flags(h) {
         let hsp = h.sp;
         let hdp = h.dp;
         let sp = sp_decoded(hsp);
@@ -190,11 +189,11 @@ pub(crate) fn encoded(s: State) -> HostState
 }
 
 // What a call gives back to its host. A state with bytes that are no flags comes back as it went in.
-pub(crate) fn handed(ok: bool, h: HostState, o: Outcome) -> HostOutcome
-    ensures { ok ≡ flags h → result ≡ handed h o }
+pub(crate) fn handed(h: HostState, o: Outcome) -> HostOutcome
+    ensures { result ≡ handed h o }
 {
     let answer = o.answer;
-    if ok {
+    if flags(h) {
         let s = o.state;
         let state = encoded(s);
         return HostOutcome { state, answer };

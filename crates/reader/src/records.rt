@@ -1,9 +1,8 @@
 // The checks of a record, in the order of the rules, and the reader.
 ghost use Rattle.std.specs.Prelude.{◌≡◌};
-ghost use Rattle.recording.specs.Reader.{memory_allowed, memory_number, refused, RecordGives};
-ghost use Rattle.reader.specs.Numbers.{AddressNumbered, Numbered};
+ghost use Rattle.recording.specs.Reader.{memory_allowed, memory_number, address_number, record_number, refused, found, first, RecordGives};
 
-use crate::fields::{byte, decoded, four, is_kind, size};
+use crate::fields::{byte, is_kind, record_of, size};
 use checks::{check, register_at, register_number};
 use recording::{Reading, Record};
 
@@ -20,27 +19,38 @@ fn memory_number(a: u32) -> u32
     check(memory_allowed(a), 6, 0)
 }
 
-// The number of the check of a record's address, where a is the first four bytes of its body; 0 for a kind that has no address.
-pub fn address_number(kind: u8, a: u32) -> u32
-    ensures { AddressNumbered kind a result }
+// The number of the check of a record's address; 0 for a record that has none.
+pub fn address_number(item: Record) -> u32
+    ensures { result ≡ address_number item }
 {
-    match kind {
-        1 => register_number(register_at(a)),
-        2 => register_number(register_at(a)),
-        8 => memory_number(a),
-        9 => memory_number(a),
-        _ => 0,
+    match item {
+        Record::None => 0,
+        Record::Write(a, _) => register_number(register_at(a)),
+        Record::Read(a, _) => register_number(register_at(a)),
+        Record::SpRun(_) => 0,
+        Record::DpRun(_) => 0,
+        Record::Tick(_) => 0,
+        Record::Break => 0,
+        Record::Acknowledge => 0,
+        Record::Store(a, _) => memory_number(a),
+        Record::Check(a, _) => memory_number(a),
+        Record::Run(_, _) => 0,
     }
 }
 
-// The number of the first check that fails for a record of which so many bytes are left.
-pub fn record_number(kind: u8, a: u32, left: usize) -> u32
-    ensures { Numbered kind a left result }
+// The number of the first check that fails for the record that bytes begin with.
+fn record_number(s: &[u8]) -> u32
+    ensures { result ≡ record_number s.now }
 {
-    if is_kind(kind) & (size(kind) <= left) {
-        return address_number(kind, a);
-    }
-    check(is_kind(kind), 7, 8)
+    let kind = byte(s, 0);
+    let begun = 0 < s.len();
+    let known = is_kind(kind);
+    let whole = size(kind) <= s.len();
+    check(
+        begun,
+        8,
+        check(known, 7, check(whole, 8, address_number(record_of(s)))),
+    )
 }
 
 fn refused(number: u32) -> Reading
@@ -54,6 +64,27 @@ fn refused(number: u32) -> Reading
     }
 }
 
+fn found(item: Record, place: usize) -> Reading
+    ensures { result ≡ found item place }
+{
+    Reading {
+        number: 0,
+        item,
+        place,
+    }
+}
+
+// The record that bytes begin with, and the place after it.
+fn first(s: &[u8]) -> Reading
+    ensures { result ≡ first s.now }
+{
+    let number = record_number(s);
+    if number == 0 {
+        return found(record_of(s), size(byte(s, 0)));
+    }
+    refused(number)
+}
+
 // The record at a place of a recording, and the place after it. Refusals, by the first that applies: 9, 7, 8, 10, 5, 6; at or past the end 8.
 pub fn read_record(recording: &[u8], place: usize) -> Reading
     ensures { RecordGives recording.now place result recording.now }
@@ -62,22 +93,13 @@ pub fn read_record(recording: &[u8], place: usize) -> Reading
     if 16383 < n {
         return refused(9);
     }
-    if n <= place {
-        return refused(8);
+    if place < n {
+        let next = first(&recording[place..n]);
+        let item = next.item;
+        if next.number == 0 {
+            return found(item, place + next.place);
+        }
+        return refused(next.number);
     }
-    let kind = byte(recording, place);
-    let a = four(recording, place + 1);
-    let number = record_number(kind, a, n - place);
-    if number == 0 {
-        let v = four(recording, place + 5);
-        let low = four(recording, place + 9);
-        let item = decoded(kind, a, v, v as u64 * 0x100000000 + low as u64);
-        let after = place + size(kind);
-        return Reading {
-            number,
-            item,
-            place: after,
-        };
-    }
-    refused(number)
+    refused(8)
 }

@@ -1,7 +1,6 @@
 // The merged run of both engines and the consumer.
 ghost use Rattle.std.specs.Prelude.{◌≡◌, ◌≤◌, true, ◌||◌};
 ghost use Rattle.words.specs.Memory.{memory};
-ghost use Rattle.dp.specs.Turn.{LengthTable};
 ghost use Rattle.dp.specs.Tried.{may_fetch, may_consume};
 ghost use Rattle.machine.specs.Promised.{RunGives};
 ghost use Rattle.runs.specs.Standing.{cut_to, end_from, Ahead, Drawn, StandsAt, EndsAt};
@@ -33,17 +32,16 @@ fn list_rounds(
     dmem: &[u8],
     queue: &mut [u64; 32],
     out: &mut [u8],
-    lengths: &[u8; 256],
 ) -> DpRan
-    requires { LengthTable lengths.now }
     ensures { Drawn dp got words dpbudget room rdram.now dmem.now queue.old out.old result
         queue.new out.new }
 {
+    let lengths = length_table();
     while draws(dp, got, dpbudget, words, room) {
         let two = dp.fetch(got, dpbudget, rdram, dmem, queue);
         dp = two.state;
         got = two.count;
-        let three = dp.consume(words, room, queue, out, lengths);
+        let three = dp.consume(words, room, queue, out, &lengths);
         dp = three.state;
         words = three.count;
     }
@@ -126,13 +124,12 @@ fn sp_rounds(
     imem: &mut [u8],
     queue: &mut [u64; 32],
     out: &mut [u8],
-    lengths: &[u8; 256],
 ) -> Stood
-    requires { LengthTable lengths.now }
     ensures { StandsAt (end_from sp dp queue.old spbudget dpbudget room (memory rdram.old dmem.old imem.old)
         out.old) (cut_to spbudget dpbudget room) result queue.new (memory rdram.new dmem.new imem.new)
         out.new }
 {
+    let lengths = length_table();
     let mut moved: u32 = 0;
     let mut got: u32 = 0;
     let mut words: u32 = 0;
@@ -147,7 +144,7 @@ fn sp_rounds(
                 let two = dp.fetch(got, dpbudget, rdram, dmem, queue);
                 dp = two.state;
                 got = two.count;
-                let three = dp.consume(words, room, queue, out, lengths);
+                let three = dp.consume(words, room, queue, out, &lengths);
                 dp = three.state;
                 words = three.count;
                 on = draws(dp, got, dpbudget, words, room);
@@ -167,7 +164,7 @@ fn sp_rounds(
     }
 }
 
-// The whole run. The queue's slots are an array of the run, lent to the turns: no turn copies it. So is the table of command lengths.
+// The whole run. The queue's slots are an array of the run, lent to the turns: no turn copies it.
 fn rounds(
     sp: SpState,
     dp: DpState,
@@ -183,14 +180,13 @@ fn rounds(
     ensures { EndsAt (end_from sp dp queue spbudget dpbudget room (memory rdram.old dmem.old imem.old)
         out.old) result (memory rdram.new dmem.new imem.new) out.new }
 {
-    let lengths = length_table();
     let at = sp_rounds(
-        sp, dp, spbudget, dpbudget, room, rdram, dmem, imem, &mut queue, out, &lengths,
+        sp, dp, spbudget, dpbudget, room, rdram, dmem, imem, &mut queue, out,
     );
     let sp = at.sp;
     let standing = at.dp;
     let last = list_rounds(
-        standing, at.got, at.words, dpbudget, room, rdram, dmem, &mut queue, out, &lengths,
+        standing, at.got, at.words, dpbudget, room, rdram, dmem, &mut queue, out,
     );
     let dp = last.state;
     let outcome = accepted(State { sp, dp, queue }, 0, at.moved);
