@@ -1,0 +1,8 @@
+use mathlib.Core.Path.{◌∙◌}
+use borrow.Author.Rules.{rules}
+use Rattle.machine.specs.Calls.{acknowledge}
+use Rattle.access.proofs.events.acknowledge.Goals as goal
+
+pub returns : goal.returns
+unfolding acknowledge
+returns c = record { outcome = c.state_call.ensures ∙ simp (c.with_dp.ensures, c.after_acknowledge.ensures) }

@@ -1,0 +1,70 @@
+-- Between two rounds, or before the SP's words at once: whoever finishes the run from here has finished the whole run, and `on` says whether a DP turn or
+-- a consumer turn acts. Lent memory and output keep their lengths.
+use Rattle.std.proofs.Common.{◌≡◌, ◌||◌, length, refl, ◌∙◌, rules}
+use Rattle.words.specs.Memory.{memory}
+use Rattle.dp.specs.Tried.{may_fetch, may_consume}
+use Rattle.machine.specs.Runs.{left, merged}
+use Rattle.runs.specs.Standing.{standing, cut_to, end_from}
+use Rattle.runs.proofs.Rounds.{round_of, sp_round_of, less, sp_lives}
+use Rattle.runs.proofs.Alone.{within, within_count, Between, entered, sp_again, all_again, moves_one, ahead_rest, ahead_less}
+use Rattle.runs.proofs.merged.sp_rounds.Goals as goal
+
+pub loop-moved-2-smaller-then-on : goal.loop-moved-2-smaller-then-on
+loop-moved-2-smaller-then-on c =
+    let o = c.loop-moved-2 in
+    let a = c.args in
+    let b = cut_to a.spbudget a.dpbudget a.room in
+    let r = standing o.sp o.dp o.queue (memory o.rdram o.dmem o.imem) o.out o.moved o.got o.words in
+    let g = o.invariant.0 in
+    let f = within c.loop-moved-2-test.true g.bound c.step-one.ensures in
+    let one = round_of b r f c.fetch-two.ensures (c.consume-three.ensures c.length_table-lengths.ensures) in
+    less b r _ one (sp_lives b r (moves_one b r g.bound c.loop-moved-2-test.true))
+
+pub loop-moved-2-preserved-then-on : goal.loop-moved-2-preserved-then-on
+loop-moved-2-preserved-then-on c =
+    let o = c.loop-moved-2 in
+    let a = c.args in
+    let b = cut_to a.spbudget a.dpbudget a.room in
+    let r = standing o.sp o.dp o.queue (memory o.rdram o.dmem o.imem) o.out o.moved o.got o.words in
+    let g = o.invariant.0 in
+    let f = within c.loop-moved-2-test.true g.bound c.step-one.ensures in
+    let one = round_of b r f c.fetch-two.ensures (c.consume-three.ensures c.length_table-lengths.ensures) in
+    let kept = c.step-one.auto.rdram in (
+      all_again b g c.loop-moved-2-test.true c.if-on.true one c.draws-on-then-on.ensures
+          (within_count c.loop-moved-2-test.true g.bound c.step-one.ensures) c.pick-stop.ensures,
+      kept.0 ∙ o.invariant.1,
+      kept.1.0 ∙ o.invariant.2,
+      kept.1.1.0 ∙ o.invariant.3,
+      c.consume-three.auto.out ∙ o.invariant.4,
+    )
+
+pub loop-moved-2-preserved : goal.loop-moved-2-preserved
+loop-moved-2-preserved c =
+    let o = c.loop-moved-2 in
+    let a = c.args in
+    let b = cut_to a.spbudget a.dpbudget a.room in
+    let r = standing o.sp o.dp o.queue (memory o.rdram o.dmem o.imem) o.out o.moved o.got o.words in
+    let g = o.invariant.0 in
+    let f = within c.loop-moved-2-test.true g.bound c.step-one.ensures in
+    let one = sp_round_of b r g.others c.if-on.false f in
+    let kept = c.step-one.auto.rdram in (
+      sp_again b g c.loop-moved-2-test.true c.if-on.false one g.others,
+      kept.0 ∙ o.invariant.1,
+      kept.1.0 ∙ o.invariant.2,
+      kept.1.1.0 ∙ o.invariant.3,
+      o.invariant.4,
+    )
+
+pub loop-moved-preserved : goal.loop-moved-preserved
+loop-moved-preserved c =
+    let o = c.loop-moved-2 in
+    let a = c.args in
+    let b = cut_to a.spbudget a.dpbudget a.room in
+    let kept = c.ahead-alone.auto.rdram in (
+      ahead_rest b o.invariant.0 c.loop-moved-2-test.false c.ahead-alone.ensures ∙ c.loop-moved.invariant.0,
+      o.invariant.0.others,
+      kept.0 ∙ o.invariant.1 ∙ c.loop-moved.invariant.2,
+      kept.1.0 ∙ o.invariant.2 ∙ c.loop-moved.invariant.3,
+      kept.1.1.0 ∙ o.invariant.3 ∙ c.loop-moved.invariant.4,
+      o.invariant.4 ∙ c.loop-moved.invariant.5,
+    )
