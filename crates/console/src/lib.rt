@@ -1,4 +1,4 @@
-// What the programs share: a recording comes in by a file descriptor, is replayed from power-up, and is summed up in one line.
+// What the programs share: a recording comes in by a reader, is replayed from power-up, and is summed up in one line.
 #![tactic(auto)]
 
 ghost use Rattle.io.specs.Counts.{IsPrefixLen};
@@ -11,6 +11,7 @@ use checks::power_up;
 use lines::{put_differs, put_nothing_compared, put_passed, put_refused};
 use playback::{Replayed, Verdict};
 use player::{replay, verdict};
+use std::io::Read;
 
 // How many bytes came in, and whether a read failed before the end.
 #[derive(Clone, Copy)]
@@ -27,23 +28,21 @@ pub struct Report {
 }
 
 // Reads until the input ends, the buffer is full or a read fails. Which bytes come is up to the system, and not proved.
-pub fn read_input(fd: i32, buf: &mut [u8]) -> Input
+pub fn read_input<R: Read>(input: &mut R, buf: &mut [u8]) -> Input
     ensures { IsPrefixLen result.length buf.new }
 {
     let mut length: usize = 0;
     while length < buf.len() {
-        let got = libc::read(fd, &mut buf[length..]);
-        if got < 0 {
-            return Input {
-                length,
-                failed: true,
-            };
+        match input.read(&mut buf[length..]) {
+            Ok(0) => break,
+            Ok(more) => length += more,
+            Err(_) => {
+                return Input {
+                    length,
+                    failed: true,
+                };
+            }
         }
-        let more = io::count(got, &buf[length..]);
-        if more == 0 {
-            break;
-        }
-        length += more;
     }
     Input {
         length,

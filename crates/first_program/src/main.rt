@@ -1,9 +1,9 @@
 // A first program over the public calls: a transfer of two words, and its answer.
 #![tactic(auto)]
 
-use libc::STDOUT_FILENO;
+use std::io;
 
-fn main() {
+fn main(rt: HostRuntime) -> io::Result<()> {
     let mut rdram = [0u8; 32768];
     let mut dmem = [0u8; 4096];
     let mut imem = [0u8; 4096];
@@ -18,13 +18,14 @@ fn main() {
     let done = ran.outcome;
     let answer = done.answer;
     if answer.number != 0 {
-        io::write_all(STDOUT_FILENO, b"refused\n");
-        return;
+        rt.write_all(b"refused\n")?;
+        return Ok(());
     }
     // Two words, so one digit is enough.
     let count = [b'0' + (answer.count % 10) as u8];
-    io::write_all(STDOUT_FILENO, &count);
-    io::write_all(STDOUT_FILENO, b" words moved, byte 7 of DMEM is ");
+    rt.write_all(&count)?;
+    rt.write_all(b" words moved, byte 7 of DMEM is ")?;
     let byte = [dmem[7], b'\n'];
-    io::write_all(STDOUT_FILENO, &byte);
+    rt.write_all(&byte)?;
+    Ok(())
 }

@@ -3,8 +3,8 @@
 // turn; in M12 it is a fetch.
 #![tactic(auto)]
 
-use libc::STDOUT_FILENO;
 use machine::{Outcome, State};
+use std::io;
 
 const SP_ADDR: u32 = 0x04040000;
 
@@ -32,7 +32,7 @@ fn digit(n: u64) -> u8 {
 }
 
 // Writes a blank and eight digits.
-fn digits(n: u64) {
+fn digits(rt: &impl Print, n: u64) -> io::Result<()> {
     let text = [
         b' ',
         digit(n / 0x10000000),
@@ -44,173 +44,181 @@ fn digits(n: u64) {
         digit(n / 0x10),
         digit(n),
     ];
-    io::write_all(STDOUT_FILENO, &text);
+    rt.write_all(&text)?;
+    Ok(())
 }
 
 // Writes a number in eight digits, and what is above 32 bits before it, if anything is.
-fn show(n: u64) {
+fn show(rt: &impl Print, n: u64) -> io::Result<()> {
     if 0xFFFFFFFF < n {
-        digits(n / 0x100000000);
+        digits(rt, n / 0x100000000)?;
     }
-    digits(n);
+    digits(rt, n)?;
+    Ok(())
 }
 
-fn show_flag(on: bool) {
+fn show_flag(rt: &impl Print, on: bool) -> io::Result<()> {
     if on {
-        digits(1);
+        digits(rt, 1)?;
     } else {
-        digits(0);
+        digits(rt, 0)?;
     }
+    Ok(())
 }
 
 // The state that a call left. A declined call, which no example has, shows its number.
-fn after(o: Outcome) -> State {
+fn after(rt: &impl Print, o: Outcome) -> io::Result<State> {
     let answer = o.answer;
     if 0 < answer.number {
-        io::write_all(STDOUT_FILENO, b" declined");
-        show(answer.number as u64);
+        rt.write_all(b" declined")?;
+        show(rt, answer.number as u64)?;
     }
     let state = o.state;
-    state
+    Ok(state)
 }
 
 // Reads a register and shows its value.
-fn read(s: State, a: u32) -> State {
+fn read(rt: &impl Print, s: State, a: u32) -> io::Result<State> {
     let o = access::read_register(s, a);
     let answer = o.answer;
-    show(answer.value);
-    after(o)
+    show(rt, answer.value)?;
+    after(rt, o)
 }
 
-fn write(s: State, a: u32, v: u32) -> State {
-    after(access::write_register(s, a, v))
+fn write(rt: &impl Print, s: State, a: u32, v: u32) -> io::Result<State> {
+    after(rt, access::write_register(s, a, v))
 }
 
-fn sp_turns(s: State, n: u32, rdram: &mut [u8], dmem: &mut [u8], imem: &mut [u8]) -> State {
+fn sp_turns(rt: &impl Print, s: State, n: u32, rdram: &mut [u8], dmem: &mut [u8], imem: &mut [u8]) -> io::Result<State> {
     let mut state = s;
-    let mut left = n;
-    while 0 < left {
-        state = after(engines::sp_turn(state, rdram, dmem, imem));
-        left -= 1;
+    for _ in 0..n {
+        state = after(rt, engines::sp_turn(state, rdram, dmem, imem))?;
     }
-    state
+    Ok(state)
 }
 
-fn fetch(s: State, rdram: &[u8], dmem: &[u8]) -> State {
-    after(engines::dp_turn(s, rdram, dmem))
+fn fetch(rt: &impl Print, s: State, rdram: &[u8], dmem: &[u8]) -> io::Result<State> {
+    after(rt, engines::dp_turn(s, rdram, dmem))
 }
 
 // Turns that each are a fetch and a consumer turn.
-fn dp_turns(s: State, n: u32, rdram: &[u8], dmem: &[u8]) -> State {
+fn dp_turns(rt: &impl Print, s: State, n: u32, rdram: &[u8], dmem: &[u8]) -> io::Result<State> {
     let mut state = s;
-    let mut left = n;
-    while 0 < left {
-        state = after(engines::consumer_turn(fetch(state, rdram, dmem)));
-        left -= 1;
+    for _ in 0..n {
+        state = after(rt, engines::consumer_turn(fetch(rt, state, rdram, dmem)?))?;
     }
-    state
+    Ok(state)
 }
 
 // Power-up.
-fn m1() {
-    io::write_all(STDOUT_FILENO, b"M1");
-    let s = read(checks::power_up(), SP_STATUS);
-    read(s, DP_STATUS);
+fn m1(rt: &impl Print) -> io::Result<()> {
+    rt.write_all(b"M1")?;
+    let s = read(rt, checks::power_up(), SP_STATUS)?;
+    read(rt, s, DP_STATUS)?;
+    Ok(())
 }
 
 // Shows RAMADDR, SPADDR and the length.
-fn show_transfer(s: State) -> State {
-    read(read(read(s, RAM_ADDR), SP_ADDR), RD_LEN)
+fn show_transfer(rt: &impl Print, s: State) -> io::Result<State> {
+    read(rt, read(rt, read(rt, s, RAM_ADDR)?, SP_ADDR)?, RD_LEN)
 }
 
 // Nine turns of a transfer with rows.
-fn m2(rdram: &mut [u8], dmem: &mut [u8], imem: &mut [u8]) -> State {
-    io::write_all(STDOUT_FILENO, b"\nM2");
-    let s = write(checks::power_up(), RAM_ADDR, 0x1000);
-    let s = write(s, RD_LEN, 0x0200B03F);
-    show_transfer(sp_turns(s, 9, rdram, dmem, imem))
+fn m2(rt: &impl Print, rdram: &mut [u8], dmem: &mut [u8], imem: &mut [u8]) -> io::Result<State> {
+    rt.write_all(b"\nM2")?;
+    let s = write(rt, checks::power_up(), RAM_ADDR, 0x1000)?;
+    let s = write(rt, s, RD_LEN, 0x0200B03F)?;
+    show_transfer(rt, sp_turns(rt, s, 9, rdram, dmem, imem)?)
 }
 
 // The rest of its 96 turns.
-fn m3(s: State, rdram: &mut [u8], dmem: &mut [u8], imem: &mut [u8]) {
-    io::write_all(STDOUT_FILENO, b"\nM3");
-    show_transfer(sp_turns(s, 87, rdram, dmem, imem));
+fn m3(rt: &impl Print, s: State, rdram: &mut [u8], dmem: &mut [u8], imem: &mut [u8]) -> io::Result<()> {
+    rt.write_all(b"\nM3")?;
+    show_transfer(rt, sp_turns(rt, s, 87, rdram, dmem, imem)?)?;
+    Ok(())
 }
 
 // A run of the SP with the largest budget; shows its count.
-fn whole_run(s: State, rdram: &mut [u8], dmem: &mut [u8], imem: &mut [u8]) -> State {
+fn whole_run(rt: &impl Print, s: State, rdram: &mut [u8], dmem: &mut [u8], imem: &mut [u8]) -> io::Result<State> {
     let mut none = [0u8; 8];
     let ran = runs::run(s, 0xFFFFFFFF, 0, 0, rdram, dmem, imem, &mut none);
     let o = ran.outcome;
     let answer = o.answer;
-    show(answer.count as u64);
-    after(o)
+    show(rt, answer.count as u64)?;
+    after(rt, o)
 }
 
 // The longest transfer: the turns of its run, DMA_BUSY and RAMADDR at its end.
-fn m4(rdram: &mut [u8], dmem: &mut [u8], imem: &mut [u8]) {
-    io::write_all(STDOUT_FILENO, b"\nM4");
-    let s = write(checks::power_up(), RD_LEN, 0xFFFFFFFF);
-    let s = read(whole_run(s, rdram, dmem, imem), DMA_BUSY);
-    read(s, RAM_ADDR);
+fn m4(rt: &impl Print, rdram: &mut [u8], dmem: &mut [u8], imem: &mut [u8]) -> io::Result<()> {
+    rt.write_all(b"\nM4")?;
+    let s = write(rt, checks::power_up(), RD_LEN, 0xFFFFFFFF)?;
+    let s = read(rt, whole_run(rt, s, rdram, dmem, imem)?, DMA_BUSY)?;
+    read(rt, s, RAM_ADDR)?;
+    Ok(())
 }
 
 // A bank address goes round inside IMEM.
-fn m5(rdram: &mut [u8], dmem: &mut [u8], imem: &mut [u8]) {
-    io::write_all(STDOUT_FILENO, b"\nM5");
-    let s = write(checks::power_up(), SP_ADDR, 0xFFFFFFFF);
-    let s = write(s, RD_LEN, 0x0F);
-    let s = sp_turns(s, 2, rdram, dmem, imem);
-    read(s, SP_ADDR);
+fn m5(rt: &impl Print, rdram: &mut [u8], dmem: &mut [u8], imem: &mut [u8]) -> io::Result<()> {
+    rt.write_all(b"\nM5")?;
+    let s = write(rt, checks::power_up(), SP_ADDR, 0xFFFFFFFF)?;
+    let s = write(rt, s, RD_LEN, 0x0F)?;
+    let s = sp_turns(rt, s, 2, rdram, dmem, imem)?;
+    read(rt, s, SP_ADDR)?;
+    Ok(())
 }
 
 // A signal is set; both bits of a pair leave HALTED off, and on.
-fn m6() {
-    io::write_all(STDOUT_FILENO, b"\nM6");
-    let s = write(checks::power_up(), SP_STATUS, 0x01000000);
-    let s = read(s, SP_STATUS);
-    let s = read(write(s, SP_STATUS, 3), SP_STATUS);
-    let s = write(s, SP_STATUS, 2);
-    read(write(s, SP_STATUS, 3), SP_STATUS);
+fn m6(rt: &impl Print) -> io::Result<()> {
+    rt.write_all(b"\nM6")?;
+    let s = write(rt, checks::power_up(), SP_STATUS, 0x01000000)?;
+    let s = read(rt, s, SP_STATUS)?;
+    let s = read(rt, write(rt, s, SP_STATUS, 3)?, SP_STATUS)?;
+    let s = write(rt, s, SP_STATUS, 2)?;
+    read(rt, write(rt, s, SP_STATUS, 3)?, SP_STATUS)?;
+    Ok(())
 }
 
-fn m7() {
-    io::write_all(STDOUT_FILENO, b"\nM7");
-    let s = read(checks::power_up(), SEMAPHORE);
-    let s = read(s, SEMAPHORE);
-    read(write(s, SEMAPHORE, 1), SEMAPHORE);
+fn m7(rt: &impl Print) -> io::Result<()> {
+    rt.write_all(b"\nM7")?;
+    let s = read(rt, checks::power_up(), SEMAPHORE)?;
+    let s = read(rt, s, SEMAPHORE)?;
+    read(rt, write(rt, s, SEMAPHORE, 1)?, SEMAPHORE)?;
+    Ok(())
 }
 
 // Writes START and END.
-fn write_list(s: State, start: u32, end: u32) -> State {
-    write(write(s, START, start), END, end)
+fn write_list(rt: &impl Print, s: State, start: u32, end: u32) -> io::Result<State> {
+    write(rt, write(rt, s, START, start)?, END, end)
 }
 
 // An empty list.
-fn m8() {
-    io::write_all(STDOUT_FILENO, b"\nM8");
-    read(write_list(checks::power_up(), 0x2000, 0x2000), DP_STATUS);
+fn m8(rt: &impl Print) -> io::Result<()> {
+    rt.write_all(b"\nM8")?;
+    read(rt, write_list(rt, checks::power_up(), 0x2000, 0x2000)?, DP_STATUS)?;
+    Ok(())
 }
 
 // A list that waits for another.
-fn m9(rdram: &[u8], dmem: &[u8]) {
-    io::write_all(STDOUT_FILENO, b"\nM9");
-    let s = write_list(
-        write_list(checks::power_up(), 0x2000, 0x2018),
+fn m9(rt: &impl Print, rdram: &[u8], dmem: &[u8]) -> io::Result<()> {
+    rt.write_all(b"\nM9")?;
+    let s = write_list(rt, 
+        write_list(rt, checks::power_up(), 0x2000, 0x2018)?,
         0x3000,
         0x3008,
-    );
-    let s = read(s, DP_STATUS);
-    let s = read(dp_turns(s, 3, rdram, dmem), CURRENT);
-    read(s, DP_STATUS);
+    )?;
+    let s = read(rt, s, DP_STATUS)?;
+    let s = read(rt, dp_turns(rt, s, 3, rdram, dmem)?, CURRENT)?;
+    read(rt, s, DP_STATUS)?;
+    Ok(())
 }
 
 // FREEZE, and off again.
-fn m10() {
-    io::write_all(STDOUT_FILENO, b"\nM10");
-    let s = write_list(write(checks::power_up(), DP_STATUS, 8), 0x2000, 0x2008);
-    let s = read(s, DP_STATUS);
-    read(write(s, DP_STATUS, 4), DP_STATUS);
+fn m10(rt: &impl Print) -> io::Result<()> {
+    rt.write_all(b"\nM10")?;
+    let s = write_list(rt, write(rt, checks::power_up(), DP_STATUS, 8)?, 0x2000, 0x2008)?;
+    let s = read(rt, s, DP_STATUS)?;
+    read(rt, write(rt, s, DP_STATUS, 4)?, DP_STATUS)?;
+    Ok(())
 }
 
 // Sets a byte of memory, if it is there.
@@ -221,44 +229,47 @@ fn set_byte(m: &mut [u8], at: usize, b: u8) {
 }
 
 // SYNC_FULL: the DP line and STATUS after the word that begins 0xE9.
-fn m11(rdram: &mut [u8], dmem: &[u8]) {
-    io::write_all(STDOUT_FILENO, b"\nM11");
+fn m11(rt: &impl Print, rdram: &mut [u8], dmem: &[u8]) -> io::Result<()> {
+    rt.write_all(b"\nM11")?;
     set_byte(rdram, 0x2000, 0xE9);
-    let s = dp_turns(
-        write_list(checks::power_up(), 0x2000, 0x2008),
+    let s = dp_turns(rt, 
+        write_list(rt, checks::power_up(), 0x2000, 0x2008)?,
         1,
         rdram,
         dmem,
-    );
+    )?;
     set_byte(rdram, 0x2000, 0);
     let dp = s.dp;
-    show_flag(dp.line);
-    read(s, DP_STATUS);
+    show_flag(rt, dp.line)?;
+    read(rt, s, DP_STATUS)?;
+    Ok(())
 }
 
 // FLUSH.
-fn m12(rdram: &[u8], dmem: &[u8]) {
-    io::write_all(STDOUT_FILENO, b"\nM12");
-    let s = fetch(write_list(checks::power_up(), 0x2000, 0x2018), rdram, dmem);
-    let s = read(write(s, DP_STATUS, 0x20), CURRENT);
-    read(s, DP_STATUS);
-    io::write_all(STDOUT_FILENO, b"\n");
+fn m12(rt: &impl Print, rdram: &[u8], dmem: &[u8]) -> io::Result<()> {
+    rt.write_all(b"\nM12")?;
+    let s = fetch(rt, write_list(rt, checks::power_up(), 0x2000, 0x2018)?, rdram, dmem)?;
+    let s = read(rt, write(rt, s, DP_STATUS, 0x20)?, CURRENT)?;
+    read(rt, s, DP_STATUS)?;
+    rt.write_all(b"\n")?;
+    Ok(())
 }
 
-fn main() {
+fn main(rt: HostRuntime) -> io::Result<()> {
     let mut rdram = [0u8; 32768];
     let mut dmem = [0u8; 4096];
     let mut imem = [0u8; 4096];
-    m1();
-    let s = m2(&mut rdram, &mut dmem, &mut imem);
-    m3(s, &mut rdram, &mut dmem, &mut imem);
-    m4(&mut rdram, &mut dmem, &mut imem);
-    m5(&mut rdram, &mut dmem, &mut imem);
-    m6();
-    m7();
-    m8();
-    m9(&rdram, &dmem);
-    m10();
-    m11(&mut rdram, &dmem);
-    m12(&rdram, &dmem);
+    m1(&rt)?;
+    let s = m2(&rt, &mut rdram, &mut dmem, &mut imem)?;
+    m3(&rt, s, &mut rdram, &mut dmem, &mut imem)?;
+    m4(&rt, &mut rdram, &mut dmem, &mut imem)?;
+    m5(&rt, &mut rdram, &mut dmem, &mut imem)?;
+    m6(&rt)?;
+    m7(&rt)?;
+    m8(&rt)?;
+    m9(&rt, &rdram, &dmem)?;
+    m10(&rt)?;
+    m11(&rt, &mut rdram, &dmem)?;
+    m12(&rt, &rdram, &dmem)?;
+    Ok(())
 }

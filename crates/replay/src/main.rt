@@ -2,14 +2,12 @@
 // was taken, the line that sums it up to standard error: no line, no verdict. Where the recording cannot be read, that is all it says.
 #![tactic(auto)]
 
-use libc::{STDERR_FILENO, STDIN_FILENO, STDOUT_FILENO};
-
-fn main() {
+fn main(rt: HostRuntime) {
     // One byte more than a recording may have, so that a longer one is seen.
     let mut input = [0u8; 16384];
-    let got = console::read_input(STDIN_FILENO, &mut input);
+    let got = console::read_input(&mut rt.stdin(), &mut input);
     if got.failed {
-        io::write_all(STDERR_FILENO, b"the recording could not be read\n");
+        let _ = rt.stderr().write_all(b"the recording could not be read\n");
         return;
     }
     let length = got.length;
@@ -28,7 +26,7 @@ fn main() {
     );
     let listing = done.listing;
     let summary = done.summary;
-    if io::write_all(STDOUT_FILENO, &out[..listing]) {
-        io::write_all(STDERR_FILENO, &line[..summary]);
+    if rt.stdout().write_all(&out[..listing]).is_ok() {
+        let _ = rt.stderr().write_all(&line[..summary]);
     }
 }

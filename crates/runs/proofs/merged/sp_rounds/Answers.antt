@@ -29,12 +29,12 @@ loop-moved-2-preserved-then-on c =
     let g = o.invariant.0 in
     let f = within c.loop-moved-2-test.true g.bound c.step-one.ensures in
     let one = round_of b r f c.fetch-two.ensures (c.consume-three.ensures c.length_table-lengths.ensures) in
-    let kept = c.step-one.auto.rdram in (
+    let kept = c.step-one.auto in (
       all_again b g c.loop-moved-2-test.true c.if-on.true one c.draws-on-then-on.ensures
           (within_count c.loop-moved-2-test.true g.bound c.step-one.ensures) c.pick-stop.ensures,
-      kept.0 ∙ o.invariant.1,
-      kept.1.0 ∙ o.invariant.2,
-      kept.1.1.0 ∙ o.invariant.3,
+      kept.rdram ∙ o.invariant.1,
+      kept.dmem ∙ o.invariant.2,
+      kept.imem ∙ o.invariant.3,
       c.consume-three.auto.out ∙ o.invariant.4,
     )
 
@@ -47,11 +47,11 @@ loop-moved-2-preserved c =
     let g = o.invariant.0 in
     let f = within c.loop-moved-2-test.true g.bound c.step-one.ensures in
     let one = sp_round_of b r g.others c.if-on.false f in
-    let kept = c.step-one.auto.rdram in (
+    let kept = c.step-one.auto in (
       sp_again b g c.loop-moved-2-test.true c.if-on.false one g.others,
-      kept.0 ∙ o.invariant.1,
-      kept.1.0 ∙ o.invariant.2,
-      kept.1.1.0 ∙ o.invariant.3,
+      kept.rdram ∙ o.invariant.1,
+      kept.dmem ∙ o.invariant.2,
+      kept.imem ∙ o.invariant.3,
       o.invariant.4,
     )
 
@@ -60,11 +60,11 @@ loop-moved-preserved c =
     let o = c.loop-moved-2 in
     let a = c.args in
     let b = cut_to a.spbudget a.dpbudget a.room in
-    let kept = c.ahead-alone.auto.rdram in (
+    let kept = c.ahead-alone.auto in (
       ahead_rest b o.invariant.0 c.loop-moved-2-test.false c.ahead-alone.ensures ∙ c.loop-moved.invariant.0,
       o.invariant.0.others,
-      kept.0 ∙ o.invariant.1 ∙ c.loop-moved.invariant.2,
-      kept.1.0 ∙ o.invariant.2 ∙ c.loop-moved.invariant.3,
-      kept.1.1.0 ∙ o.invariant.3 ∙ c.loop-moved.invariant.4,
+      kept.rdram ∙ o.invariant.1 ∙ c.loop-moved.invariant.2,
+      kept.dmem ∙ o.invariant.2 ∙ c.loop-moved.invariant.3,
+      kept.imem ∙ o.invariant.3 ∙ c.loop-moved.invariant.4,
       o.invariant.4 ∙ c.loop-moved.invariant.5,
     )
