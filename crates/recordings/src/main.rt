@@ -2,10 +2,11 @@
 // written for each pair: the recording's name, `same` or `differs` and the line that sums the replay up, or `missing`.
 #![tactic(auto)]
 
-use libc::STDOUT_FILENO;
+use std::fs::File;
+use std::{env, fs, io};
 
 // Whether the recording in one file gives the listing in another; and the line that sums it up.
-fn compare_files(recording: i32, expected: i32) {
+fn compare_files(rt: &impl Print, recording: &mut File, expected: &mut File) -> io::Result<()> {
     let mut input = [0u8; 16384];
     let got = console::read_input(recording, &mut input);
     let length = got.length;
@@ -26,39 +27,38 @@ fn compare_files(recording: i32, expected: i32) {
     let summary = done.summary;
     // One byte more than any listing has.
     let mut listing = [0u8; 69205];
-    let n = io::read_full(expected, &mut listing);
-    if check::same(&out[..written], &listing[..n]) {
-        io::write_all(STDOUT_FILENO, b" same: ");
+    let wanted = console::read_input(expected, &mut listing);
+    let n = wanted.length;
+    if out[..written] == listing[..n] {
+        rt.write_all(b" same: ")?;
     } else {
-        io::write_all(STDOUT_FILENO, b" differs: ");
+        rt.write_all(b" differs: ")?;
     }
-    io::write_all(STDOUT_FILENO, &line[..summary]);
+    rt.write_all(&line[..summary])
 }
 
-// The line of a pair: arguments i and j.
-fn compare(i: usize, j: usize) {
-    let mut name = io::buffer();
-    let n = os::arg(i, &mut name);
-    let recording = os::open_read(&name[..n]);
-    let mut path = io::buffer();
-    let k = os::arg(j, &mut path);
-    let expected = os::open_read(&path[..k]);
-    io::write_all(STDOUT_FILENO, &name[..n]);
-    if (recording < 0) | (expected < 0) {
-        io::write_all(STDOUT_FILENO, b" missing\n");
-    } else {
-        compare_files(recording, expected);
+// The line of a pair of files.
+fn compare(rt: &HostRuntime, recording: &str, expected: &str) -> io::Result<()> {
+    rt.write_all(recording.as_bytes())?;
+    match (fs::open(rt, recording), fs::open(rt, expected)) {
+        (Ok(mut recording), Ok(mut expected)) => {
+            compare_files(rt, &mut recording, &mut expected)
+        }
+        _ => rt.write_all(b" missing\n"),
     }
-    libc::close(recording);
-    libc::close(expected);
 }
 
-fn main() {
+fn main(rt: HostRuntime) -> io::Result<()> {
+    let mut waiting: Option<String> = None;
     // The first argument is the program's own name.
-    let pairs = os::arg_count() / 2;
-    let mut i = 0;
-    while i < pairs {
-        compare(2 * i + 1, 2 * i + 2);
-        i += 1;
+    for name in env::args(&rt)?.skip(1) {
+        match waiting.take() {
+            None => waiting = Some(name),
+            Some(recording) => compare(&rt, &recording, &name)?,
+        }
+    }
+    match waiting {
+        Some(recording) => compare(&rt, &recording, ""),
+        None => Ok(()),
     }
 }

@@ -25,3 +25,10 @@ returns c =
     let a = c.args in
     declined a.f a.place a.buffer.now c.write_number-number.result c.answered-2.result c.write_number-number.ensures
     c.if-number-eq0.false c.answered-2.ensures
+
+-- The record has room, so the part ends within the buffer
+pub slice_bounds-fill-end : goal.slice_bounds-fill-end
+slice_bounds-fill-end c =
+    let a = c.args in
+    let r = room_for_lem a.f a.place a.buffer.now c.write_number-number.ensures c.if-number-eq0.true c.size.ensures in
+    search rules

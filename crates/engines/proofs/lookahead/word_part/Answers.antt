@@ -1,0 +1,16 @@
+-- The part that is given back starts in the lent block itself, and its bytes are those of the word (`part_word`).
+use Prim.Native.Nat.{◌+◌}
+use mathlib.Core.Path.{refl}
+use native.Mathlib.Omega.{arith}
+use native.Mathlib.Nat.{add-sub_cancel_left, zero-add}
+use lib.ListN.{length}
+use borrow.Author.Rules.{rules}
+use borrow.Author.Tests.{le-leb, lt-leb}
+use Rattle.words.proofs.Bytes.{part_word}
+use Rattle.engines.proofs.lookahead.word_part.Goals as goal
+
+pub returns-then-asked : goal.returns-then-asked
+returns-then-asked c =
+    let a = c.args in
+    simp (c.if-asked.true, le-leb (a.at + 8) (length a.m.now) (omega arith))
+    (record { block = refl; offset = refl; bytes = simp add-sub_cancel_left (part_word a.m.now a.at (omega arith)) })

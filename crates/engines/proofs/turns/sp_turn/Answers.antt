@@ -1,0 +1,6 @@
+use borrow.Author.Rules.{rules}
+use Rattle.engines.proofs.Promised.{sp_turn_given}
+use Rattle.engines.proofs.turns.sp_turn.Goals as goal
+
+pub returns : goal.returns
+returns c = sp_turn_given c.run-ran.ensures
