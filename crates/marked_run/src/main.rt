@@ -89,7 +89,14 @@ fn write(rt: &impl Print, s: State, a: u32, v: u32) -> io::Result<State> {
     after(rt, access::write_register(s, a, v))
 }
 
-fn sp_turns(rt: &impl Print, s: State, n: u32, rdram: &mut [u8], dmem: &mut [u8], imem: &mut [u8]) -> io::Result<State> {
+fn sp_turns(
+    rt: &impl Print,
+    s: State,
+    n: u32,
+    rdram: &mut [u8],
+    dmem: &mut [u8],
+    imem: &mut [u8],
+) -> io::Result<State> {
     let mut state = s;
     for _ in 0..n {
         state = after(rt, engines::sp_turn(state, rdram, dmem, imem))?;
@@ -132,14 +139,26 @@ fn m2(rt: &impl Print, rdram: &mut [u8], dmem: &mut [u8], imem: &mut [u8]) -> io
 }
 
 // The rest of its 96 turns.
-fn m3(rt: &impl Print, s: State, rdram: &mut [u8], dmem: &mut [u8], imem: &mut [u8]) -> io::Result<()> {
+fn m3(
+    rt: &impl Print,
+    s: State,
+    rdram: &mut [u8],
+    dmem: &mut [u8],
+    imem: &mut [u8],
+) -> io::Result<()> {
     rt.write_all(b"\nM3")?;
     show_transfer(rt, sp_turns(rt, s, 87, rdram, dmem, imem)?)?;
     Ok(())
 }
 
 // A run of the SP with the largest budget; shows its count.
-fn whole_run(rt: &impl Print, s: State, rdram: &mut [u8], dmem: &mut [u8], imem: &mut [u8]) -> io::Result<State> {
+fn whole_run(
+    rt: &impl Print,
+    s: State,
+    rdram: &mut [u8],
+    dmem: &mut [u8],
+    imem: &mut [u8],
+) -> io::Result<State> {
     let mut none = [0u8; 8];
     let ran = runs::run(s, 0xFFFFFFFF, 0, 0, rdram, dmem, imem, &mut none);
     let o = ran.outcome;
@@ -194,14 +213,19 @@ fn write_list(rt: &impl Print, s: State, start: u32, end: u32) -> io::Result<Sta
 // An empty list.
 fn m8(rt: &impl Print) -> io::Result<()> {
     rt.write_all(b"\nM8")?;
-    read(rt, write_list(rt, checks::power_up(), 0x2000, 0x2000)?, DP_STATUS)?;
+    read(
+        rt,
+        write_list(rt, checks::power_up(), 0x2000, 0x2000)?,
+        DP_STATUS,
+    )?;
     Ok(())
 }
 
 // A list that waits for another.
 fn m9(rt: &impl Print, rdram: &[u8], dmem: &[u8]) -> io::Result<()> {
     rt.write_all(b"\nM9")?;
-    let s = write_list(rt, 
+    let s = write_list(
+        rt,
         write_list(rt, checks::power_up(), 0x2000, 0x2018)?,
         0x3000,
         0x3008,
@@ -215,7 +239,12 @@ fn m9(rt: &impl Print, rdram: &[u8], dmem: &[u8]) -> io::Result<()> {
 // FREEZE, and off again.
 fn m10(rt: &impl Print) -> io::Result<()> {
     rt.write_all(b"\nM10")?;
-    let s = write_list(rt, write(rt, checks::power_up(), DP_STATUS, 8)?, 0x2000, 0x2008)?;
+    let s = write_list(
+        rt,
+        write(rt, checks::power_up(), DP_STATUS, 8)?,
+        0x2000,
+        0x2008,
+    )?;
     let s = read(rt, s, DP_STATUS)?;
     read(rt, write(rt, s, DP_STATUS, 4)?, DP_STATUS)?;
     Ok(())
@@ -232,7 +261,8 @@ fn set_byte(m: &mut [u8], at: usize, b: u8) {
 fn m11(rt: &impl Print, rdram: &mut [u8], dmem: &[u8]) -> io::Result<()> {
     rt.write_all(b"\nM11")?;
     set_byte(rdram, 0x2000, 0xE9);
-    let s = dp_turns(rt, 
+    let s = dp_turns(
+        rt,
         write_list(rt, checks::power_up(), 0x2000, 0x2008)?,
         1,
         rdram,
@@ -248,7 +278,12 @@ fn m11(rt: &impl Print, rdram: &mut [u8], dmem: &[u8]) -> io::Result<()> {
 // FLUSH.
 fn m12(rt: &impl Print, rdram: &[u8], dmem: &[u8]) -> io::Result<()> {
     rt.write_all(b"\nM12")?;
-    let s = fetch(rt, write_list(rt, checks::power_up(), 0x2000, 0x2018)?, rdram, dmem)?;
+    let s = fetch(
+        rt,
+        write_list(rt, checks::power_up(), 0x2000, 0x2018)?,
+        rdram,
+        dmem,
+    )?;
     let s = read(rt, write(rt, s, DP_STATUS, 0x20)?, CURRENT)?;
     read(rt, s, DP_STATUS)?;
     rt.write_all(b"\n")?;

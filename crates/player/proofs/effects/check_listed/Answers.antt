@@ -1,0 +1,12 @@
+use Prim.Native.Nat.{ℕ}
+use mathlib.Core.Path.{refl, ap}
+use mathlib.Core.Bool.{not}
+use lib.Dec.{eqb}
+use borrow.Author.Rules.{rules}
+use Rattle.player.proofs.effects.check_listed.Goals as goal
+
+pub returns : goal.returns
+returns c =
+    let l = c.load_at-found.ensures in
+    let p = c.args in
+    record { state_value = (refl, rw (← l) c.put_found-place.ensures); compared_value = (refl, ap (λ (n : ℕ). not (eqb n p.expected)) l) }
