@@ -71,7 +71,7 @@ fn write_all(s: State, addresses: &[u32], values: &[u32]) -> Outcome
 // Writes up to 64 values, each to the register at its address or a mirror of it. Refusals: 11, 4; then 10 and 5 of a pair, which end the
 // call and keep what the pairs before it did.
 pub fn write_registers(s: State, addresses: &[u32], values: &[u32]) -> Outcome
-    ensures { BurstGives s addresses.now values.now result addresses.now values.now }
+    ensures { BurstGives s addresses.now values.now result addresses.exit.now values.exit.now }
 {
     let number = burst_refusal(s, addresses, values);
     if number == 0 {

@@ -21,7 +21,7 @@ pub extern "C" fn ofersky_write_registers(
     values: &[u32],
 ) -> HostOutcome
     ensures outcome { result ≡ handed s (write_registers (decoded s) addresses.now values.now) }
-    ensures kept { (addresses.now ≡ addresses.now) × (values.now ≡ values.now) }
+    ensures kept { (addresses.exit.now ≡ addresses.entry.now) × (values.exit.now ≡ values.entry.now) }
 {
     handed(s, access::write_registers(decoded(s), addresses, values))
 }
@@ -57,7 +57,7 @@ pub extern "C" fn ofersky_sp_row(
 #[unsafe(no_mangle)]
 pub extern "C" fn ofersky_dp_turn(s: HostState, rdram: &[u8], dmem: &[u8]) -> HostOutcome
     ensures outcome { result ≡ handed s (dp_turn (decoded s) rdram.now dmem.now) }
-    ensures kept { (rdram.now ≡ rdram.now) × (dmem.now ≡ dmem.now) }
+    ensures kept { (rdram.exit.now ≡ rdram.entry.now) × (dmem.exit.now ≡ dmem.entry.now) }
 {
     handed(s, engines::dp_turn(decoded(s), rdram, dmem))
 }
@@ -122,7 +122,7 @@ fn part_at(xbus: bool, current: u32, n: usize) -> HostPart
 #[unsafe(no_mangle)]
 pub extern "C" fn ofersky_look_ahead<'a>(s: HostState, rdram: &'a [u8], dmem: &'a [u8]) -> HostPart
     ensures part { result ≡ part_handed (look (decoded s) rdram.now dmem.now) }
-    ensures kept { (rdram.now ≡ rdram.now) × (dmem.now ≡ dmem.now) }
+    ensures kept { (rdram.exit.now ≡ rdram.entry.now) × (dmem.exit.now ≡ dmem.entry.now) }
 {
     let state = decoded(s);
     let n = engines::look_ahead(state, rdram, dmem).len();

@@ -18,7 +18,7 @@ use writer::fields_of;
 #[unsafe(no_mangle)]
 pub extern "C" fn ofersky_read_record(recording: &[u8], place: usize) -> HostReading
     ensures reading { result ≡ reading_handed (read_record recording.now place) }
-    ensures kept { recording.now ≡ recording.now }
+    ensures kept { recording.exit.now ≡ recording.entry.now }
 {
     let done = reader::read_record(recording, place);
     let found = done.item;
@@ -47,7 +47,7 @@ pub extern "C" fn ofersky_replay(
     out: &mut [u8],
 ) -> HostReplayed
     ensures { HostReplayGives s recording.now (memory rdram.old dmem.old imem.old) out.old result
-        recording.now (memory rdram.new dmem.new imem.new) out.new }
+        recording.exit.now (memory rdram.new dmem.new imem.new) out.new }
 {
     let done = player::replay(decoded(s), recording, rdram, dmem, imem, out);
     let left = done.outcome;

@@ -120,7 +120,7 @@ pub fn replay(
     out: &mut [u8],
 ) -> Replayed
     ensures { ReplayGives s recording.now (memory rdram.old dmem.old imem.old) out.old result
-        recording.now (memory rdram.new dmem.new imem.new) out.new }
+        recording.exit.now (memory rdram.new dmem.new imem.new) out.new }
 {
     let place = put_header(out, 0);
     let number = replay_refusal(s, recording, rdram, dmem, imem);

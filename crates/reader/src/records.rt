@@ -87,7 +87,7 @@ fn first(s: &[u8]) -> Reading
 
 // The record at a place of a recording, and the place after it. Refusals, by the first that applies: 9, 7, 8, 10, 5, 6; at or past the end 8.
 pub fn read_record(recording: &[u8], place: usize) -> Reading
-    ensures { RecordGives recording.now place result recording.now }
+    ensures { RecordGives recording.now place result recording.exit.now }
 {
     let n = recording.len();
     if 16383 < n {

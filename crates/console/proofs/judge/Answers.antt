@@ -1,0 +1,17 @@
+use Prim.Native.Nat.{◌≤◌}
+use mathlib.Core.Path.{◌≡◌}
+use lib.ListN.{length}
+use Rattle.playback.specs.Theorems.{longest_listing}
+use Rattle.console.proofs.Listings.{report_given}
+use borrow.Author.Rules.{rules}
+use Rattle.console.proofs.judge.Goals as goal
+
+pub returns : goal.returns
+returns c =
+    let p = c.args in
+    let room : longest_listing ≤ length p.out.now = search rules in
+    let size : length p.line.now ≡ 128 = search rules in
+    let e =
+      report_given _ _ _ p.out.now c.replay-done.result _ _ _ _ c.power_up.ensures room size c.replay-done.ensures c.put_summary-summary.ensures
+    in
+    record { report_gives = e.0; prefix_len = e.1.0; prefix_len_2 = e.1.1 }

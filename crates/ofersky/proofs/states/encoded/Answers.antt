@@ -1,0 +1,7 @@
+use Rattle.host.specs.States.{encoded}
+use borrow.Author.Rules.{rules}
+use Rattle.ofersky.proofs.states.encoded.Goals as goal
+
+pub returns : goal.returns
+unfolding encoded
+returns c = simp (c.sp_encoded-sp.ensures, c.dp_encoded-dp.ensures)

@@ -1,0 +1,7 @@
+use Rattle.host.specs.States.{flags}
+use borrow.Author.Rules.{rules}
+use Rattle.ofersky.proofs.states.flags.Goals as goal
+
+pub returns : goal.returns
+unfolding flags
+returns c = simp (c.sp_flags.ensures, c.dp_flags.ensures)
