@@ -4,8 +4,6 @@ ghost use Rattle.recording.specs.Kinds.{byte, joined, is_kind, size, decoded, re
 
 use recording::Record;
 
-const BODIES: [usize; 11] = [0, 8, 8, 4, 4, 4, 0, 0, 12, 12, 8];
-
 // A byte, 0 past the end.
 pub(crate) fn byte(s: &[u8], i: usize) -> u8
     ensures { result ≡ byte s.now i }
@@ -26,12 +24,21 @@ pub fn is_kind(kind: u8) -> bool
     (1 <= kind) & (kind <= 10)
 }
 
-// How many bytes a record takes: its kind and its body.
+// How many bytes a record takes: its kind and its body. A table would be made anew for each record.
 pub fn size(kind: u8) -> usize
     ensures { result ≡ size kind }
 {
-    let k = kind as usize;
-    if k < 11 { 1 + BODIES[k] } else { 1 }
+    match kind {
+        1 => 9,
+        2 => 9,
+        3 => 5,
+        4 => 5,
+        5 => 5,
+        8 => 13,
+        9 => 13,
+        10 => 9,
+        _ => 1,
+    }
 }
 
 // The record of a kind, where a is the first four bytes of its body, v the four after them, and w the eight after the first four.

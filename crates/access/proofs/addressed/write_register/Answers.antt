@@ -1,20 +1,23 @@
--- The number that the checks gave is tested against 0: `if_accepted` and `refused_outcome` speak of the same test.
-use mathlib.Core.Path.{sym, ◌∙◌}
+-- The state is tested, and what stands at the address decides the rest.
+use mathlib.Core.Path.{sym, ap, ◌∙◌}
 use borrow.Author.Rules.{rules}
-use Rattle.machine.specs.Refusals.{access_refusal}
-use Rattle.machine.specs.Calls.{write_register}
-use Rattle.machine.proofs.Refusals.{access_at, if_accepted, refused_outcome}
+use Rattle.machine.specs.declared.Register.{Register}
+use Rattle.machine.specs.Calls.{write_at, write_register}
+use Rattle.machine.proofs.Refusals.{refused_outcome}
+use Rattle.bursts.proofs.Bursts.{write_sound}
+use Rattle.access.proofs.Access.{state_checked, state_declines}
 use Rattle.access.proofs.addressed.write_register.Goals as goal
 
 pub returns-then-number-eq0 : goal.returns-then-number-eq0
-unfolding write_register
 returns-then-number-eq0 c =
-    let r = c.register_at-register.ensures in
-    let e = sym (access_at _ _ c.access_refusal-number.ensures r) ∙ c.if-number-eq0.true in
-    record { outcome = c.write_at.ensures ∙ rw r (sym (if_accepted (access_refusal _ _) _ _ e)) }
+    let a = c.args in
+    let z = sym c.state_refusal-number.ensures ∙ c.if-number-eq0.true in
+    let at = ap (λ (x : Register). write_at x a.s a.v) c.register_at.ensures in
+    record { outcome = c.write_at.ensures ∙ at ∙ sym (write_sound a.s a.a a.v (state_checked a.s z)) }
 
 pub returns : goal.returns
 unfolding write_register
 returns c =
-    let e = access_at _ _ c.access_refusal-number.ensures c.register_at-register.ensures in
-    record { outcome = refused_outcome _ c.declined.ensures e c.if-number-eq0.false }
+    let n = c.state_refusal-number.ensures in
+    let left = c.if-number-eq0.false in
+    record { outcome = refused_outcome _ c.declined.ensures (n ∙ state_declines _ _ (λ z. left (n ∙ z))) left }
