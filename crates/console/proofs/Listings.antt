@@ -1,4 +1,4 @@
--- A replay from power_up_lem whose buffers have room for every listing and for the line that sums it up.
+-- A replay from power-up whose buffers have room for every listing and for the line that sums it up.
 use Prim.Native.Nat.{ℕ, ◌≤◌}
 use mathlib.Core.Path.{◌≡◌, sym, subst, ◌∙◌}
 use mathlib.Core.List.{List}

@@ -23,7 +23,7 @@ summary_of (Passed compared) count place f = passed_line compared
 abbrev pub summary : Played → Text
 summary p = summary_of (judged p.outcome.answer.number p.findings) p.outcome.answer.count p.place p.findings
 
--- The recording s was replayed from power_up_lem over the memory m, and left m'; the first bytes of d are the whole listing, and those of l the line that
+-- The recording s was replayed from power-up over the memory m, and left m'; the first bytes of d are the whole listing, and those of l the line that
 -- sums it up
 pub record ReportGives (s : List ℕ) (m : Memory) (r : Report) (m' : Memory) (d l : List ℕ) : Type 0 where
   pub bytes : m' ≡ (replay s (world power_up m)).memory

@@ -602,7 +602,7 @@ trace_written s es h = record {
   at_most = begun_at_most es s h;
 }
 
--- From power_up_lem nothing was written before: the trace alone decides
+-- From power-up nothing was written before: the trace alone decides
 pub from_power_up : (es : List Event) → TraceWritten power_up es
 from_power_up es = trace_written power_up es power_up_sound
 

@@ -62,7 +62,7 @@ holds (puts a b ∷ ls) s m = holds ls s (memory (set m.rdram a b) m.dmem m.imem
 abbrev pub zeros : Memory
 zeros = memory (replicate 32768 0) (replicate 4096 0) (replicate 4096 0)
 
--- Every example holds from power_up_lem
+-- Every example holds from power-up
 unfoldable pub holds_all : List (List Line) → Bool
 holds_all [] = true
 holds_all (ls ∷ es) = holds ls power_up zeros && holds_all es
