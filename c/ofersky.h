@@ -1,7 +1,7 @@
 /* Two DMA engines over lent memory, sixteen registers and two interrupt lines; recordings and
  * their replay. Version 0.8.0.
  *
- * Link target/staticlib/libofersky.a, which `rt staticlib ofersky` writes (x86-64 Linux).
+ * Link crates/ofersky/out/libofersky.a, which `rt lib` writes there (x86-64 Linux).
  *
  * Every call takes every value of its parameters and answers it. Bad input is refused by the first
  * number that applies: the state comes back as handed in, value, count and words are 0, and no

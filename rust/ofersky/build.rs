@@ -1,5 +1,5 @@
-//! Tells cargo where the library is that `rt staticlib ofersky` writes. OFERSKY_LIB names another
-//! folder.
+//! Tells cargo where the library is that `rt lib` writes in crates/ofersky. OFERSKY_LIB names
+//! another folder.
 //!
 //! Where the library is not built yet this is a warning and no error: `cargo check`, `cargo doc`
 //! and editors do not need it. What is linked then fails, for want of the library.
@@ -12,14 +12,15 @@ fn main() {
     let folder = match env::var_os("OFERSKY_LIB") {
         Some(folder) => PathBuf::from(folder),
         None => {
-            PathBuf::from(env::var_os("CARGO_MANIFEST_DIR").unwrap()).join("../../target/staticlib")
+            PathBuf::from(env::var_os("CARGO_MANIFEST_DIR").unwrap())
+                .join("../../crates/ofersky/out")
         }
     };
     let library = folder.join("libofersky.a");
     println!("cargo:rerun-if-changed={}", library.display());
     if !library.exists() {
         println!(
-            "cargo:warning=there is no {}: run `rt staticlib ofersky` before programs are linked",
+            "cargo:warning=there is no {}: run `rt lib` in crates/ofersky before programs are linked",
             library.display()
         );
     }

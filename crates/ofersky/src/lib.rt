@@ -1,4 +1,4 @@
-// Every public call but `fields_of`, and the version, for host programs: under C's calling convention, over structs that C and Rust can lay out. `rt staticlib ofersky` makes the library.
+// Every public call but `fields_of`, and the version, for host programs: under C's calling convention, over structs that C and Rust can lay out. `rt lib` makes the library.
 #![tactic(auto)]
 
 mod events; // events.rt: the calls that take the state alone

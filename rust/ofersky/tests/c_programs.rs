@@ -13,7 +13,7 @@ use std::process::Command;
 fn library() -> PathBuf {
     match env::var_os("OFERSKY_LIB") {
         Some(folder) => Path::new(&folder).join("libofersky.a"),
-        None => path("target/staticlib/libofersky.a"),
+        None => path("crates/ofersky/out/libofersky.a"),
     }
 }
 
