@@ -11,10 +11,8 @@ fn main() {
     println!("cargo:rerun-if-env-changed=OFERSKY_LIB");
     let folder = match env::var_os("OFERSKY_LIB") {
         Some(folder) => PathBuf::from(folder),
-        None => {
-            PathBuf::from(env::var_os("CARGO_MANIFEST_DIR").unwrap())
-                .join("../../crates/ofersky/out")
-        }
+        None => PathBuf::from(env::var_os("CARGO_MANIFEST_DIR").unwrap())
+            .join("../../crates/ofersky/out"),
     };
     let library = folder.join("libofersky.a");
     println!("cargo:rerun-if-changed={}", library.display());

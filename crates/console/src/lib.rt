@@ -77,10 +77,10 @@ pub fn judge(
     out: &mut [u8; 69204],
     line: &mut [u8; 128],
 ) -> Report
-    ensures report_gives { ReportGives recording.now (memory rdram.old dmem.old imem.old) result
+    ensures report { ReportGives recording.now (memory rdram.old dmem.old imem.old) result
         (memory rdram.new dmem.new imem.new) out.new line.new }
-    ensures prefix_len { IsPrefixLen result.listing out.new }
-    ensures prefix_len_2 { IsPrefixLen result.summary line.new }
+    ensures listing_len { IsPrefixLen result.listing out.new }
+    ensures summary_len { IsPrefixLen result.summary line.new }
 {
     let done = replay(power_up(), recording, rdram, dmem, imem, out);
     let summary = put_summary(line, done);

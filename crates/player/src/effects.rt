@@ -47,9 +47,9 @@ fn unlisted(done: Outcome, at: usize) -> Progress
 
 // Reads a register and lists what was found and what was expected.
 fn read_listed(s: State, a: u32, expected: u32, out: &mut [u8], at: usize) -> Progress
-    ensures show_gives { ShowGives (read_register s a) (found_line letter_r false a (read_register s a).answer.value expected)
+    ensures listed { ShowGives (read_register s a) (found_line letter_r false a (read_register s a).answer.value expected)
         out.old at result.state out.new result.place }
-    ensures compared_value { (result.compared ≡ true) × (result.differed ≡ not (eqb (read_register s a).answer.value expected)) }
+    ensures compared { (result.compared ≡ true) × (result.differed ≡ not (eqb (read_register s a).answer.value expected)) }
 {
     let done = read_register(s, a);
     let answer = done.answer;
@@ -97,8 +97,8 @@ fn replay_run(
     dmem: &mut [u8],
     imem: &mut [u8],
 ) -> Ran
-    ensures value { result ≡ replay_run (world s (memory rdram.old dmem.old imem.old)) spbudget dpbudget }
-    ensures imem_after { memory rdram.new dmem.new imem.new
+    ensures given { result ≡ replay_run (world s (memory rdram.old dmem.old imem.old)) spbudget dpbudget }
+    ensures bytes { memory rdram.new dmem.new imem.new
         ≡ (after_run (world s (memory rdram.old dmem.old imem.old)) spbudget dpbudget).memory }
 {
     let mut words = [0u8; 2048];
@@ -163,10 +163,10 @@ fn check_listed(
     out: &mut [u8],
     at: usize,
 ) -> Progress
-    ensures state_value { (result.state ≡ s) × Put out.old at
+    ensures listed { (result.state ≡ s) × Put out.old at
         (found_line letter_l true a (load_at a (memory rdram.now dmem.now imem.now)) expected)
         out.new result.place }
-    ensures compared_value { (result.compared ≡ true)
+    ensures compared { (result.compared ≡ true)
         × (result.differed ≡ not (eqb (load_at a (memory rdram.now dmem.now imem.now)) expected)) }
 {
     let found = load_at(a, rdram, dmem, imem);

@@ -14,4 +14,4 @@ returns c =
     let e =
       report_given _ _ _ p.out.now c.replay-done.result _ _ _ _ c.power_up.ensures room size c.replay-done.ensures c.put_summary-summary.ensures
     in
-    record { report_gives = e.0; prefix_len = e.1.0; prefix_len_2 = e.1.1 }
+    record { report = e.0; listing_len = e.1.0; summary_len = e.1.1 }

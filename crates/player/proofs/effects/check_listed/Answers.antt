@@ -9,4 +9,4 @@ pub returns : goal.returns
 returns c =
     let l = c.load_at-found.ensures in
     let p = c.args in
-    record { state_value = (refl, rw (← l) c.put_found-place.ensures); compared_value = (refl, ap (λ (n : ℕ). not (eqb n p.expected)) l) }
+    record { listed = (refl, rw (← l) c.put_found-place.ensures); compared = (refl, ap (λ (n : ℕ). not (eqb n p.expected)) l) }

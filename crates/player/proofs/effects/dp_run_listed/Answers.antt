@@ -5,4 +5,4 @@ use Rattle.player.proofs.effects.dp_run_listed.Goals as goal
 pub returns : goal.returns
 returns c =
     let r = c.replay_run-ran.ensures in
-    dp_run_performed _ r.value r.imem_after c.put_run-place.ensures c.uncompared.ensures
+    dp_run_performed _ r.given r.bytes c.put_run-place.ensures c.uncompared.ensures

@@ -27,7 +27,7 @@ pub returns-in-Read : goal.returns-in-Read
 unfolding after line
 returns-in-Read c =
     let l = c.read_listed.ensures in
-    listed_call c.in-Read.is l.show_gives refl refl refl l.compared_value
+    listed_call c.in-Read.is l.listed refl refl refl l.compared
 
 pub returns-in-Tick : goal.returns-in-Tick
 unfolding after line
@@ -78,4 +78,4 @@ pub returns-in-Check : goal.returns-in-Check
 unfolding after line
 returns-in-Check c =
     let l = c.check_listed.ensures in
-    state_kept c.in-Check.is l.state_value.0 refl refl l.state_value.1 l.compared_value
+    state_kept c.in-Check.is l.listed.0 refl refl l.listed.1 l.compared

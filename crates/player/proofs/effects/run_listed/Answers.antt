@@ -5,4 +5,4 @@ use Rattle.player.proofs.effects.run_listed.Goals as goal
 pub returns : goal.returns
 returns c =
     let r = c.replay_run-ran.ensures in
-    run_performed _ _ r.value r.imem_after c.put_run-after.ensures c.put_run-place.ensures c.uncompared.ensures
+    run_performed _ _ r.given r.bytes c.put_run-after.ensures c.put_run-place.ensures c.uncompared.ensures
