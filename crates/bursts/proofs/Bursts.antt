@@ -1,7 +1,7 @@
 -- The steps of a burst, one pair after the other.
 use Prim.Native.Nat.{ℕ, zero, suc, ◌+◌, ◌<◌, ◌≤◌}
 use mathlib.Core.Path.{◌≡◌, refl, sym, ap, ◌∙◌}
-use mathlib.Core.Bool.{Bool, true, false, cond, ◌&&◌}
+use mathlib.Core.Bool.{Bool, true, false}
 use mathlib.Core.List.{List, [], ◌∷◌}
 use native.Mathlib.Omega.{arith}
 use native.Mathlib.Numerals.{add-one}
@@ -9,14 +9,14 @@ use lib.Dec.{leb, eqb}
 use lib.ListN.{length, get_or, drop, drop_of_length-le}
 use lib.Seq.{drop-cons}
 use borrow.Author.Tests.{eqb-true, leb-true}
-use Rattle.words.proofs.Tests.{by, contradiction, and_true}
+use Rattle.words.proofs.Tests.{and_true}
 use Rattle.machine.specs.declared.State.{State}
 use Rattle.machine.specs.declared.Outcome.{Outcome}
 use Rattle.machine.specs.declared.Register.{Register}
 use Rattle.machine.specs.declared.Register.TheVariants.{Sp, Dp, Misaligned, Unmapped}
 use Rattle.machine.specs.Sound.{sound}
 use Rattle.machine.specs.Address.{register_at}
-use Rattle.machine.specs.Refusals.{register_number, state_refusal, access_refusal, check, accepted, declined, ending, if_refused}
+use Rattle.machine.specs.Refusals.{register_number, state_refusal, access_refusal, check, declined, ending, if_refused}
 use Rattle.machine.specs.Calls.{sp_written, dp_written, write_at, write_register}
 use Rattle.machine.proofs.Refusals.{if_accepted, if_refused_lem}
 use Rattle.machine.proofs.Kept.{write_kept}

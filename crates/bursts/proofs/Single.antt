@@ -1,30 +1,28 @@
 -- A burst is its single writes; where it stops and why; and it can be cut in two.
-use Prim.Native.Nat.{ℕ, zero, suc, ◌+◌, ◌<◌, ◌≤◌}
+use Prim.Native.Nat.{ℕ, zero, suc, ◌+◌, ◌≤◌}
 use mathlib.Core.Path.{◌≡◌, refl, sym, ap, subst, ◌∙◌}
 use mathlib.Core.Bool.{Bool, true, false, not, cond, ◌&&◌}
-use mathlib.Core.Logic.{◌↔◌}
 use mathlib.Core.List.{List, [], ◌∷◌, ◌++◌}
 use native.Mathlib.Omega.{arith}
-use native.Mathlib.Nat.{add-zero, zero-add, add-suc}
-use lib.Dec.{ltb, leb, eqb}
+use native.Mathlib.Nat.{add-zero, add-suc}
+use lib.Dec.{ltb, eqb}
 use lib.ListN.{length, get_or, length-append}
 use borrow.Author.Tests.{eq-eqb, le-leb, lt-ltb, le-ltb, ltb-true, ltb-false}
-use Rattle.words.proofs.Tests.{by, contradiction, true_and}
+use Rattle.words.proofs.Tests.{by, true_and}
 use Rattle.machine.specs.declared.State.{State}
 use Rattle.machine.specs.declared.Outcome.{Outcome}
 use Rattle.machine.specs.declared.Register.{Register}
 use Rattle.machine.specs.declared.Register.TheVariants.{Sp, Dp, Misaligned, Unmapped}
 use Rattle.machine.specs.Sound.{sound}
 use Rattle.machine.specs.Address.{aligned, register_at}
-use Rattle.machine.specs.Refusals.{is_register, register_number, state_refusal, access_refusal, check, declined, ending, if_refused}
+use Rattle.machine.specs.Refusals.{is_register, register_number, state_refusal, check, ending, if_refused}
 use Rattle.machine.specs.Calls.{write_at, write_register}
-use Rattle.machine.specs.Promised.{WriteGives}
-use Rattle.machine.proofs.Address.{register_number_lem, register_aligned}
-use Rattle.machine.proofs.Refusals.{write_answers, if_accepted, if_refused_lem}
+use Rattle.machine.proofs.Address.{register_number_lem}
+use Rattle.machine.proofs.Refusals.{write_answers}
 use Rattle.machine.proofs.Kept.{write_kept}
 use Rattle.bursts.specs.Bursts.{burst_allowed, burst_refusal, writes_from, write_registers, BurstGives}
 use Rattle.bursts.specs.Single.{Words32, Singly, done, refused, written, BurstIsSingle, leading, pairs_written, stops, stop_aligned, BurstNumbers, later, BurstSplits}
-use Rattle.bursts.proofs.Bursts.{write_sound, write_number_lem, allowed, checked, not_declined, burst_begins, burst_declined, writes_kept, burst_kept}
+use Rattle.bursts.proofs.Bursts.{write_sound, write_number_lem, allowed, checked, not_declined, burst_begins, burst_declined, writes_kept}
 
 -- ---- Single writes
 

@@ -4,7 +4,6 @@ use Rattle.words.specs.Memory.{Memory}
 use Rattle.machine.specs.declared.State.{State}
 use Rattle.machine.specs.declared.Outcome.{Outcome}
 use Rattle.machine.specs.Sound.{sound}
-use Rattle.machine.specs.Refusals.{Answers}
 use Rattle.playback.specs.declared.Replayed.{Replayed}
 use Rattle.playback.specs.Promised.{ReplayGives}
 use Rattle.playback.specs.Verdict.{verdict, code_of}

@@ -16,7 +16,7 @@ use Rattle.words.proofs.Tests.{by, contradiction}
 use Rattle.sp.specs.declared.SpState.{SpState}
 use Rattle.sp.specs.declared.SpRegister.TheVariants as SpReg
 use Rattle.sp.specs.State.{with_waiting, with_semaphore}
-use Rattle.sp.specs.Registers.{sp_write, sp_status_written, sp_break}
+use Rattle.sp.specs.Registers.{sp_status_written, sp_break}
 use Rattle.sp.specs.Transfer.{bank_add, started, length_written, next_word, next_row, ended}
 use Rattle.sp.specs.Turn.{sp_next, sp_after}
 use Rattle.sp.specs.Left.{running_words, transfer_words, words_left}
@@ -43,7 +43,7 @@ use Rattle.machine.proofs.Runs.{sp_part}
 use Rattle.machine.proofs.Rows.{row_is_run}
 use Rattle.machine.proofs.Address.{in_block_lem, mirrored, sixteen}
 use Rattle.bursts.specs.Bursts.{burst_allowed, burst_refusal, writes_from, write_registers}
-use Rattle.bursts.specs.Single.{Words32, leading, pairs_written}
+use Rattle.bursts.specs.Single.{Words32, leading}
 use Rattle.bursts.proofs.Bursts.{write_sound, write_number_lem, allowed, burst_begins, not_declined, burst_declined, burst_kept}
 use Rattle.laws.specs.Waiting.{Event, reads, writes, bursts, ticks, breaks, acknowledges, sp_turn_over, sp_row_over, dp_turn_over, consumer_turns, run_over, event_leaves, trace_leaves, Written, noted, noted_all, note, last_written, written_before, Holds, is_length, lengths_among, lengths_of, length_writes, writes_length, moves_of, moves, begins, begun, SameTransfer, Starts, Before, BeginsOnce, TraceWritten}
 

@@ -1,5 +1,5 @@
 -- The line that sums a replay up has room in 128 bytes.
-use Prim.Native.Nat.{ℕ, ◌+◌, ◌≤◌}
+use Prim.Native.Nat.{ℕ, ◌≤◌}
 use mathlib.Core.Bool.{Bool, true, false, cond}
 use mathlib.Core.List.{◌++◌}
 use native.Mathlib.Omega.{arith}

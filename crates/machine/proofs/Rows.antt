@@ -1,5 +1,5 @@
 -- The row: what it gives that is not declined, and that it is the merged run with as many SP turns.
-use Prim.Native.Nat.{ℕ, zero, suc, ◌+◌, ◌-◌, ◌/◌}
+use Prim.Native.Nat.{ℕ, zero, suc, ◌+◌, ◌/◌}
 use mathlib.Core.Path.{◌≡◌, refl, sym, ap, ◌∙◌}
 use mathlib.Core.Bool.{true, false}
 use mathlib.Core.List.{List}
@@ -10,7 +10,6 @@ use Rattle.sp.proofs.Rows.{row_busy, row_idle, row_ends, row_turns_lem}
 use Rattle.machine.specs.declared.State.{State}
 use Rattle.machine.specs.Sound.{with_sp}
 use Rattle.machine.specs.Refusals.{sp_refusal, accepted}
-use Rattle.machine.specs.Runs.{run, end_of_run}
 use Rattle.machine.specs.Rows.{sp_row, sp_row_memory}
 use Rattle.machine.specs.Accepted.{Gives, Still, Rowed, RowIsRun}
 use Rattle.machine.proofs.Sound.{facts}

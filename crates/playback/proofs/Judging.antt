@@ -21,7 +21,7 @@ use Rattle.playback.specs.declared.Findings.{Findings}
 use Rattle.playback.specs.declared.Replayed.{Replayed}
 use Rattle.playback.specs.declared.Verdict.{Verdict}
 use Rattle.playback.specs.declared.Verdict.TheVariants.{Passed}
-use Rattle.playback.specs.Findings.{compared, differed, findings}
+use Rattle.playback.specs.Findings.{compared, differed}
 use Rattle.playback.specs.Replay.{Played, lines, last_line, replay_refusal, replay}
 use Rattle.playback.specs.Promised.{ReplayGives}
 use Rattle.playback.specs.Verdict.{judged, verdict, number_of, compared_of, differed_of, VerdictGives, code_of, Judged, Passes, EveryPass, EveryReplayShown}

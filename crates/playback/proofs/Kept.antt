@@ -14,7 +14,7 @@ use Rattle.words.proofs.Tests.{by, and_true}
 use Rattle.words.proofs.Bytes.{bytes_length, bytes_at_lem, load_past, store_past, store_length, store_inside, store_outside, with_same, with_place}
 use Rattle.recording.specs.Reader.{memory_allowed}
 use Rattle.recording.proofs.Bytes.{next_byte}
-use Rattle.playback.specs.Effects.{place_at, offset_at, load_at, store_at, after}
+use Rattle.playback.specs.Effects.{place_at, offset_at, load_at, store_at}
 use Rattle.playback.specs.Stores.{fitted_at, Stores, Edges}
 
 -- ---- The bytes of a number

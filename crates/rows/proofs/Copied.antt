@@ -1,11 +1,11 @@
 -- The loops of the copier.
 use Prim.Native.Nat.{ℕ, ◌+◌, ◌<◌, ◌≤◌, min}
-use mathlib.Core.Path.{◌≡◌, refl, sym, ap, ◌∙◌}
-use mathlib.Core.List.{List, [], ◌++◌, append-nil}
+use mathlib.Core.Path.{◌≡◌, sym, ap, ◌∙◌}
+use mathlib.Core.List.{List, append-nil}
 use native.Mathlib.Omega.{arith}
 use native.Mathlib.Nat.{zero-add}
 use native.Mathlib.Numerals.{add-one}
-use lib.ListN.{length, take, drop, set, get_or, replicate, length-replicate, get_or-replicate, drop_of_length-le}
+use lib.ListN.{length, take, set, get_or, replicate, length-replicate, get_or-replicate, drop_of_length-le}
 use lib.Seq.{paste, paste-suc, take-paste, take_all}
 
 -- One more byte

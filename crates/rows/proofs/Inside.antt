@@ -10,13 +10,12 @@ use Rattle.words.specs.Bits.{ram_add}
 use Rattle.words.specs.Memory.{Memory, memory}
 use Rattle.words.proofs.Tests.{by}
 use Rattle.sp.specs.declared.SpState.{SpState}
-use Rattle.sp.specs.declared.turns.SpRan.{SpRan}
 use Rattle.sp.specs.Transfer.{bank_add, next_word}
 use Rattle.sp.specs.Turn.{sp_next, sp_move, sp_after, memory_after}
 use Rattle.sp.specs.Tried.{ran}
 use Rattle.sp.specs.Rows.{row_turns, advanced}
 use Rattle.sp.proofs.Turn.{after_suc, after_add, memory_add}
-use Rattle.sp.proofs.Rows.{next_inside, inside, advanced_busy, advanced_len, row_busy, row_idle}
+use Rattle.sp.proofs.Rows.{next_inside, inside, advanced_busy, advanced_len, row_idle}
 use Rattle.rows.specs.Words.{words_moved}
 use Rattle.rows.specs.Pieces.{between, Below, Piece}
 

@@ -1,13 +1,13 @@
 -- Words moved one after another are one part set in its place: the words that the source has, and zeros for those that it has not.
 use Prim.Native.Nat.{ℕ, zero, suc, ◌+◌, ◌-◌, ◌*◌, ◌/◌, ◌<◌, ◌≤◌, min}
 use mathlib.Core.Path.{◌≡◌, refl, sym, ap, ◌∙◌}
-use mathlib.Core.List.{List, [], ◌∷◌, ◌++◌, append_assoc, append-nil}
+use mathlib.Core.List.{List, ◌++◌, append_assoc}
 use native.Mathlib.Omega.{arith}
 use native.Mathlib.Nat.{zero-add, suc-add}
-use lib.ListN.{length, take, drop, replicate, length-append, length-take, length-drop, length-replicate, replicate-append-replicate}
+use lib.ListN.{length, take, drop, replicate, length-append, length-drop, length-replicate, replicate-append-replicate}
 use lib.Seq.{sets, sets-eq, length-sets, take-add, drop-drop, length-take-le}
-use borrow.Author.Tests.{le-leb, lt-leb}
-use Rattle.words.specs.Memory.{bytes_at, load_word, store_word}
+use borrow.Author.Tests.{le-leb}
+use Rattle.words.specs.Memory.{load_word, store_word}
 use Rattle.words.proofs.Bytes.{sets_append, load_length, load_past, store_past, part_word}
 use Rattle.rows.specs.Words.{fitted_words, words_from, words_moved}
 

@@ -1,21 +1,21 @@
 -- Turns inside a row advance the registers, and the turns of a row end it: one row exactly.
-use Prim.Native.Nat.{ℕ, zero, suc, ◌+◌, ◌-◌, ◌*◌, ◌/◌, ◌%◌, ◌<◌, ◌≤◌}
+use Prim.Native.Nat.{ℕ, zero, suc, ◌+◌, ◌-◌, ◌*◌, ◌/◌, ◌<◌, ◌≤◌}
 use mathlib.Core.Path.{◌≡◌, refl, sym, ap, ◌∙◌}
-use mathlib.Core.Bool.{Bool, true, false, cond}
+use mathlib.Core.Bool.{Bool, true, false}
 use native.Mathlib.Omega.{arith}
 use lib.Dec.{ltb}
 use borrow.Author.Tests.{lt-ltb, le-ltb}
 use Rattle.words.specs.Bits.{ram_add}
-use Rattle.words.proofs.Tests.{by, contradiction}
+use Rattle.words.proofs.Tests.{by}
 use Rattle.sp.specs.declared.SpState.{SpState}
 use Rattle.sp.specs.State.{with_transfer}
 use Rattle.sp.specs.Sound.{SpSound}
 use Rattle.sp.specs.Transfer.{bank_add, started, next_word, next_row, ended}
-use Rattle.sp.specs.Turn.{sp_next, sp_after, sp_taken}
+use Rattle.sp.specs.Turn.{sp_next, sp_after}
 use Rattle.sp.specs.Left.{running_words, words_left}
 use Rattle.sp.specs.Rows.{row_turns, advanced, RowEnds, RowTurns}
-use Rattle.sp.proofs.Turn.{Case, idle, in_row, end_of_row, starts, ends, cases, after_suc}
-use Rattle.sp.proofs.Left.{left_after_lem, left_idle, taken_min, taken_idle}
+use Rattle.sp.proofs.Turn.{after_suc}
+use Rattle.sp.proofs.Left.{left_after_lem, taken_min}
 
 -- ---- Inside a row
 

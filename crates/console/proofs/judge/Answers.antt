@@ -12,6 +12,6 @@ returns c =
     let room : longest_listing ≤ length p.out.now = search rules in
     let size : length p.line.now ≡ 128 = search rules in
     let e =
-      report_given _ _ _ p.out.now c.replay-done.result _ _ _ _ c.power_up.ensures room size c.replay-done.ensures c.put_summary-summary.ensures
+    report_given _ _ _ p.out.now c.replay-done.result _ _ _ _ c.power_up.ensures room size c.replay-done.ensures c.put_summary-summary.ensures
     in
     record { report = e.0; listing_len = e.1.0; summary_len = e.1.1 }

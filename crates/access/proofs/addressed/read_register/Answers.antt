@@ -1,6 +1,5 @@
 -- The state is tested, and what stands at the address decides the rest.
 use mathlib.Core.Path.{sym, ap, ◌∙◌}
-use borrow.Author.Rules.{rules}
 use Rattle.machine.specs.declared.Register.{Register}
 use Rattle.machine.specs.Calls.{read_at, read_register}
 use Rattle.machine.proofs.Refusals.{refused_outcome}

@@ -1,4 +1,3 @@
-use borrow.Author.Rules.{rules}
 use Rattle.bursts.specs.Bursts.{burst_refusal}
 use Rattle.access.proofs.burst.burst_refusal.Goals as goal
 

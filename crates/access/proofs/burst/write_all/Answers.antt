@@ -1,15 +1,12 @@
 -- At each test of the loop the state is sound, and whoever finishes from here has finished the whole.
-use Prim.Native.Nat.{ℕ, ◌+◌, ◌-◌, ◌≤◌}
+use Prim.Native.Nat.{ℕ, ◌+◌, ◌≤◌}
 use mathlib.Core.Path.{◌≡◌, refl, sym, ap, ◌∙◌}
-use mathlib.Core.Bool.{true}
 use mathlib.Core.List.{List}
 use native.Mathlib.Omega.{arith}
 use lib.ListN.{length, get_or, drop}
-use borrow.Author.Rules.{rules}
 use Rattle.sp.specs.declared.SpState.{SpState}
 use Rattle.dp.specs.declared.DpState.{DpState}
 use Rattle.machine.specs.declared.State.{State}
-use Rattle.machine.specs.Sound.{sound}
 use Rattle.machine.specs.Refusals.{register_number, ending}
 use Rattle.bursts.specs.Bursts.{burst_refusal, writes_from}
 use Rattle.bursts.proofs.Bursts.{checked, allowed, written, goes_on, stops_here, at_end, pair_kept}

@@ -1,9 +1,9 @@
 -- At each test of the loop the state is sound, and whoever finishes from here has finished the whole.
-use Prim.Native.Nat.{ℕ, ◌+◌, ◌-◌, ◌≤◌}
-use mathlib.Core.Path.{◌≡◌, refl, sym, ap, ◌∙◌}
+use Prim.Native.Nat.{ℕ, ◌-◌, ◌≤◌}
+use mathlib.Core.Path.{◌≡◌}
 use mathlib.Core.Bool.{true}
 use mathlib.Core.List.{List}
-use lib.ListN.{length, get_or, drop}
+use lib.ListN.{length, drop}
 use Rattle.sp.specs.declared.SpState.{SpState}
 use Rattle.dp.specs.declared.DpState.{DpState}
 use Rattle.machine.specs.declared.State.{State}

@@ -1,6 +1,5 @@
 use mathlib.Core.Path.{refl, sym, ◌∙◌}
-use borrow.Author.Rules.{rules}
-use Rattle.bursts.specs.Bursts.{burst_refusal, write_registers}
+use Rattle.bursts.specs.Bursts.{write_registers}
 use Rattle.bursts.proofs.Bursts.{burst_begins}
 use Rattle.machine.proofs.Refusals.{refused_outcome}
 use Rattle.access.proofs.burst.write_registers.Goals as goal

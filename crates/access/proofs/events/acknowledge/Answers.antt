@@ -1,5 +1,4 @@
 use mathlib.Core.Path.{◌∙◌}
-use borrow.Author.Rules.{rules}
 use Rattle.machine.specs.Calls.{acknowledge}
 use Rattle.access.proofs.events.acknowledge.Goals as goal
 

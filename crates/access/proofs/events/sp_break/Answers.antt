@@ -1,5 +1,4 @@
 use mathlib.Core.Path.{◌∙◌}
-use borrow.Author.Rules.{rules}
 use Rattle.machine.specs.Calls.{break}
 use Rattle.access.proofs.events.sp_break.Goals as goal
 

@@ -1,7 +1,6 @@
 use mathlib.Core.Path.{sym}
 use borrow.Author.Tests.{eq-eqb, ne_eqb}
 use Rattle.machine.specs.Address.{register_at}
-use borrow.Author.Rules.{rules}
 use Rattle.checks.proofs.addresses.register_at.Goals as goal
 
 pub returns-then-in_block : goal.returns-then-in_block

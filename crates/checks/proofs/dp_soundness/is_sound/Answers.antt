@@ -1,5 +1,4 @@
 use Rattle.dp.specs.Sound.{dp_sound}
-use borrow.Author.Rules.{rules}
 use Rattle.checks.proofs.dp_soundness.is_sound.Goals as goal
 
 pub returns : goal.returns

@@ -1,4 +1,3 @@
-use borrow.Author.Rules.{rules}
 use Rattle.machine.specs.Refusals.{dp_refusal}
 use Rattle.checks.proofs.refusals.dp_refusal.Goals as goal
 

@@ -1,4 +1,3 @@
-use borrow.Author.Rules.{rules}
 use Rattle.machine.specs.Refusals.{sp_refusal}
 use Rattle.checks.proofs.refusals.sp_refusal.Goals as goal
 

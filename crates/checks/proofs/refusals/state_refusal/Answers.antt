@@ -1,4 +1,3 @@
-use borrow.Author.Rules.{rules}
 use Rattle.machine.specs.Refusals.{state_refusal}
 use Rattle.checks.proofs.refusals.state_refusal.Goals as goal
 

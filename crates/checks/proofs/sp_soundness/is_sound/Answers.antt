@@ -1,5 +1,4 @@
 use Rattle.sp.specs.Sound.{sp_sound}
-use borrow.Author.Rules.{rules}
 use Rattle.checks.proofs.sp_soundness.is_sound.Goals as goal
 
 pub returns : goal.returns

@@ -1,4 +1,3 @@
-use borrow.Author.Rules.{rules}
 use Rattle.dp.specs.Turn.{advanced}
 use Rattle.dp.proofs.DpState.advanced.Goals as goal
 

@@ -1,7 +1,6 @@
 use mathlib.Core.Path.{sym, ◌∙◌}
 use Rattle.dp.proofs.Cases.{consuming}
 use Rattle.dp.proofs.Listed.{next_consumed, none_consumed}
-use borrow.Author.Rules.{rules}
 use Rattle.dp.proofs.DpState.consume_next.Goals as goal
 
 pub dequeued-requires : goal.dequeued-requires

@@ -3,7 +3,6 @@ use Rattle.dp.specs.Turn.{dequeued}
 use mathlib.Core.Path.{◌≡◌, ap}
 use Prim.Native.Nat.{ℕ, ◌+◌, ◌-◌, ◌%◌}
 use native.Mathlib.Omega.{arith}
-use borrow.Author.Rules.{rules}
 use Rattle.dp.proofs.DpState.dequeued.Goals as goal
 
 pub returns : goal.returns

@@ -1,7 +1,6 @@
 -- Each arm by the tests that led to it; `sym` puts the code's answer of `runs` for the test in the definition.
 use mathlib.Core.Path.{sym}
 use Rattle.dp.specs.Lists.{end_written}
-use borrow.Author.Rules.{rules}
 use Rattle.dp.proofs.DpState.end_written.Goals as goal
 
 pub returns-then-runs-self : goal.returns-then-runs-self

@@ -1,6 +1,5 @@
 use Rattle.dp.specs.Turn.{enqueued}
 use mathlib.Core.Path.{refl}
-use borrow.Author.Rules.{rules}
 use Rattle.dp.proofs.DpState.enqueued.Goals as goal
 
 pub returns : goal.returns

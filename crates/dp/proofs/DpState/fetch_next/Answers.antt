@@ -1,7 +1,6 @@
 use mathlib.Core.Path.{sym, ◌∙◌}
 use Rattle.dp.proofs.Cases.{fetching}
 use Rattle.dp.proofs.Listed.{next_fetched, next_still}
-use borrow.Author.Rules.{rules}
 use Rattle.dp.proofs.DpState.fetch_next.Goals as goal
 
 pub enqueued-requires : goal.enqueued-requires

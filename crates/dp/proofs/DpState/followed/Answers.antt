@@ -1,5 +1,4 @@
 use Rattle.dp.specs.Turn.{followed}
-use borrow.Author.Rules.{rules}
 use Rattle.dp.proofs.DpState.followed.Goals as goal
 
 pub returns-then-runs : goal.returns-then-runs

@@ -1,4 +1,3 @@
-use borrow.Author.Rules.{rules}
 use Rattle.dp.proofs.Tried.{framed_by}
 use Rattle.dp.proofs.DpState.framed.Goals as goal
 

@@ -2,7 +2,6 @@ use Prim.Native.Nat.{ℕ}
 use mathlib.Core.Path.{ap}
 use Rattle.dp.specs.State.{with_list}
 use Rattle.dp.specs.Lists.{limit_moved}
-use borrow.Author.Rules.{rules}
 use Rattle.dp.proofs.DpState.limit_moved.Goals as goal
 
 pub returns : goal.returns

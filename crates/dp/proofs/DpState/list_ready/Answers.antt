@@ -1,4 +1,3 @@
-use borrow.Author.Rules.{rules}
 use Rattle.dp.proofs.DpState.list_ready.Goals as goal
 
 pub returns : goal.returns

@@ -3,7 +3,6 @@ use mathlib.Core.Path.{ap}
 use mathlib.Core.Bool.{false}
 use Rattle.dp.specs.State.{with_list}
 use Rattle.dp.specs.Lists.{list_started}
-use borrow.Author.Rules.{rules}
 use Rattle.dp.proofs.DpState.list_started.Goals as goal
 
 pub returns : goal.returns

@@ -1,4 +1,3 @@
-use borrow.Author.Rules.{rules}
 use Rattle.dp.specs.Turn.{list_word}
 use Rattle.dp.proofs.DpState.list_word.Goals as goal
 

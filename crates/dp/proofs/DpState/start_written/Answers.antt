@@ -1,5 +1,4 @@
 use Rattle.dp.specs.Lists.{start_written}
-use borrow.Author.Rules.{rules}
 use Rattle.dp.proofs.DpState.start_written.Goals as goal
 
 pub returns : goal.returns

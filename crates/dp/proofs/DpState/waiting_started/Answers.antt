@@ -1,7 +1,6 @@
 -- Each arm by its test; `sym` puts the code's answer of `runs` for the test in the definition.
 use mathlib.Core.Path.{sym}
 use Rattle.dp.specs.Lists.{waiting_started}
-use borrow.Author.Rules.{rules}
 use Rattle.dp.proofs.DpState.waiting_started.Goals as goal
 
 pub returns-then-self-runs : goal.returns-then-self-runs

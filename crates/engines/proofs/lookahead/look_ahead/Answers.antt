@@ -1,4 +1,3 @@
-use borrow.Author.Rules.{rules}
 use Rattle.engines.proofs.Promised.{look_rdram, look_dmem}
 use Rattle.engines.proofs.lookahead.look_ahead.Goals as goal
 

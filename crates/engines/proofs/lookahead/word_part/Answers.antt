@@ -2,10 +2,9 @@
 use Prim.Native.Nat.{◌+◌}
 use mathlib.Core.Path.{refl}
 use native.Mathlib.Omega.{arith}
-use native.Mathlib.Nat.{add-sub_cancel_left, zero-add}
+use native.Mathlib.Nat.{add-sub_cancel_left}
 use lib.ListN.{length}
-use borrow.Author.Rules.{rules}
-use borrow.Author.Tests.{le-leb, lt-leb}
+use borrow.Author.Tests.{le-leb}
 use Rattle.words.proofs.Bytes.{part_word}
 use Rattle.engines.proofs.lookahead.word_part.Goals as goal
 

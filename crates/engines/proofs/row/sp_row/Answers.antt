@@ -1,4 +1,3 @@
-use borrow.Author.Rules.{rules}
 use Rattle.engines.proofs.Promised.{row_done, row_declined}
 use Rattle.engines.proofs.row.sp_row.Goals as goal
 

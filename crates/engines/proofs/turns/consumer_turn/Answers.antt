@@ -1,4 +1,3 @@
-use borrow.Author.Rules.{rules}
 use Rattle.engines.proofs.Promised.{consumer_turn_taken, consumer_turn_idle, consumer_turn_declined}
 use Rattle.engines.proofs.turns.consumer_turn.Goals as goal
 

@@ -1,4 +1,3 @@
-use borrow.Author.Rules.{rules}
 use Rattle.engines.proofs.Promised.{dp_turn_done, dp_turn_declined}
 use Rattle.engines.proofs.turns.dp_turn.Goals as goal
 

@@ -1,4 +1,3 @@
-use borrow.Author.Rules.{rules}
 use Rattle.engines.proofs.Promised.{sp_turn_given}
 use Rattle.engines.proofs.turns.sp_turn.Goals as goal
 

@@ -1,6 +1,5 @@
 use Rattle.listing.specs.Text.{decimal}
 use Rattle.listing.proofs.Putting.{◌then◌}
-use borrow.Author.Rules.{rules}
 use Rattle.lines.proofs.digits.put_decimal.Goals as goal
 
 pub returns : goal.returns

@@ -1,6 +1,5 @@
 use Rattle.listing.specs.Text.{hex}
 use Rattle.listing.proofs.Putting.{◌then◌}
-use borrow.Author.Rules.{rules}
 use Rattle.lines.proofs.digits.put_hex.Goals as goal
 
 pub returns-then-word : goal.returns-then-word

@@ -1,7 +1,6 @@
 use borrow.Author.Tests.{eq-eqb, ne_eqb}
 use Rattle.listing.specs.Text.{leading}
 use Rattle.listing.proofs.Putting.{nothing}
-use borrow.Author.Rules.{rules}
 use Rattle.lines.proofs.digits.put_leading.Goals as goal
 
 pub returns-then-n-eq0 : goal.returns-then-n-eq0

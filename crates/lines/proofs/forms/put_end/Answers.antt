@@ -1,6 +1,5 @@
 use Rattle.listing.specs.Text.{end_line}
 use Rattle.listing.proofs.Putting.{◌then◌}
-use borrow.Author.Rules.{rules}
 use Rattle.lines.proofs.forms.put_end.Goals as goal
 
 pub returns : goal.returns

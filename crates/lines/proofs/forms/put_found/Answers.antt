@@ -1,6 +1,5 @@
 use Rattle.listing.specs.Text.{found_line}
 use Rattle.listing.proofs.Putting.{◌then◌}
-use borrow.Author.Rules.{rules}
 use Rattle.lines.proofs.forms.put_found.Goals as goal
 
 pub returns : goal.returns

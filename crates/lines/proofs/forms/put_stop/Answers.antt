@@ -1,6 +1,5 @@
 use Rattle.listing.specs.Text.{stop_line}
 use Rattle.listing.proofs.Putting.{◌then◌}
-use borrow.Author.Rules.{rules}
 use Rattle.lines.proofs.forms.put_stop.Goals as goal
 
 pub returns : goal.returns

@@ -1,5 +1,4 @@
 use Rattle.listing.proofs.Putting.{◌then◌}
-use borrow.Author.Rules.{rules}
 use Rattle.lines.proofs.summary.put_counted.Goals as goal
 
 pub returns : goal.returns

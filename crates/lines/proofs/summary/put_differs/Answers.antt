@@ -1,6 +1,5 @@
 use Rattle.listing.specs.Summary.{differs_line}
 use Rattle.listing.proofs.Putting.{◌then◌}
-use borrow.Author.Rules.{rules}
 use Rattle.lines.proofs.summary.put_differs.Goals as goal
 
 pub returns : goal.returns

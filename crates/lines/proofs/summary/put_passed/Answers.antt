@@ -1,6 +1,5 @@
 use Rattle.listing.specs.Summary.{passed_line}
 use Rattle.listing.proofs.Putting.{◌then◌}
-use borrow.Author.Rules.{rules}
 use Rattle.lines.proofs.summary.put_passed.Goals as goal
 
 pub returns : goal.returns

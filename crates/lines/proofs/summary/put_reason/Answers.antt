@@ -1,6 +1,5 @@
 use borrow.Author.Tests.{eq-eqb, ne_eqb}
 use Rattle.listing.specs.Summary.{reason}
-use borrow.Author.Rules.{rules}
 use Rattle.lines.proofs.summary.put_reason.Goals as goal
 
 pub returns-then-number-eq7 : goal.returns-then-number-eq7

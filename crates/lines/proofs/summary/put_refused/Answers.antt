@@ -1,6 +1,5 @@
 use Rattle.listing.specs.Summary.{refused_line}
 use Rattle.listing.proofs.Putting.{◌then◌}
-use borrow.Author.Rules.{rules}
 use Rattle.lines.proofs.summary.put_refused.Goals as goal
 
 pub returns : goal.returns

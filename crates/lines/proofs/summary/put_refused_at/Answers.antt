@@ -1,6 +1,5 @@
 use Rattle.listing.specs.Summary.{refused_at}
 use Rattle.listing.proofs.Putting.{◌then◌}
-use borrow.Author.Rules.{rules}
 use Rattle.lines.proofs.summary.put_refused_at.Goals as goal
 
 pub returns-then-number : goal.returns-then-number

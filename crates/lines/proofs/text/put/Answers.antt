@@ -1,11 +1,8 @@
-use mathlib.Core.Path.{◌≡◌, refl, ◌∙◌}
-use Prim.Native.Nat.{◌-◌, ◌≤◌, ◌<◌}
+use mathlib.Core.Path.{◌∙◌}
+use Prim.Native.Nat.{◌<◌}
 use native.Mathlib.Omega.{arith}
-use lib.ListN.{length, take}
-use lib.Seq.{take-length}
-use borrow.Author.Rules.{rules}
-use Rattle.listing.specs.Put.{Put}
-use Rattle.listing.proofs.Putting.{nothing, more}
+use lib.ListN.{length}
+use Rattle.listing.proofs.Putting.{more}
 use Rattle.lines.proofs.text.put.Goals as goal
 
 pub loop-i-preserved : goal.loop-i-preserved

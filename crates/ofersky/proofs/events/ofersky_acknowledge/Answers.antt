@@ -1,6 +1,5 @@
 use Rattle.machine.specs.Calls.{acknowledge}
 use Rattle.ofersky.proofs.Handed.{handed_given}
-use borrow.Author.Rules.{rules}
 use Rattle.ofersky.proofs.events.ofersky_acknowledge.Goals as goal
 
 pub returns : goal.returns

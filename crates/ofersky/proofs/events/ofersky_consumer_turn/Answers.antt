@@ -1,6 +1,5 @@
 use Rattle.machine.specs.Turns.{consumer_turn}
 use Rattle.ofersky.proofs.Handed.{handed_given}
-use borrow.Author.Rules.{rules}
 use Rattle.ofersky.proofs.events.ofersky_consumer_turn.Goals as goal
 
 pub returns : goal.returns

@@ -1,6 +1,5 @@
 use mathlib.Core.Path.{ap, ◌∙◌}
 use Rattle.machine.specs.Sound.{sound}
-use borrow.Author.Rules.{rules}
 use Rattle.ofersky.proofs.events.ofersky_is_sound.Goals as goal
 
 pub returns : goal.returns

@@ -1,6 +1,5 @@
 use mathlib.Core.Path.{ap, ◌∙◌}
 use Rattle.host.specs.States.{encoded}
-use borrow.Author.Rules.{rules}
 use Rattle.ofersky.proofs.events.ofersky_power_up.Goals as goal
 
 pub returns : goal.returns

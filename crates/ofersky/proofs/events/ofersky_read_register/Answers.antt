@@ -1,6 +1,5 @@
 use Rattle.machine.specs.Calls.{read_register}
 use Rattle.ofersky.proofs.Handed.{handed_given}
-use borrow.Author.Rules.{rules}
 use Rattle.ofersky.proofs.events.ofersky_read_register.Goals as goal
 
 pub returns : goal.returns

@@ -1,6 +1,5 @@
 use Rattle.machine.specs.Calls.{break}
 use Rattle.ofersky.proofs.Handed.{handed_given}
-use borrow.Author.Rules.{rules}
 use Rattle.ofersky.proofs.events.ofersky_sp_break.Goals as goal
 
 pub returns : goal.returns

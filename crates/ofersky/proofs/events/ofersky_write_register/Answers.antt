@@ -1,6 +1,5 @@
 use Rattle.machine.specs.Calls.{write_register}
 use Rattle.ofersky.proofs.Handed.{handed_given}
-use borrow.Author.Rules.{rules}
 use Rattle.ofersky.proofs.events.ofersky_write_register.Goals as goal
 
 pub returns : goal.returns

@@ -1,6 +1,5 @@
 use Rattle.machine.specs.Turns.{dp_turn}
 use Rattle.ofersky.proofs.Handed.{handed_given}
-use borrow.Author.Rules.{rules}
 use Rattle.ofersky.proofs.lent.ofersky_dp_turn.Goals as goal
 
 pub returns : goal.returns

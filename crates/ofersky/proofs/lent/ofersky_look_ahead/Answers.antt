@@ -1,5 +1,4 @@
 use Rattle.ofersky.proofs.Handed.{look_given}
-use borrow.Author.Rules.{rules}
 use Rattle.ofersky.proofs.lent.ofersky_look_ahead.Goals as goal
 
 pub returns : goal.returns

@@ -1,4 +1,3 @@
-use borrow.Author.Rules.{rules}
 use Rattle.ofersky.proofs.Handed.{run_given}
 use Rattle.ofersky.proofs.lent.ofersky_run.Goals as goal
 

@@ -2,7 +2,6 @@ use Rattle.words.specs.Memory.{memory}
 use mathlib.Core.Path.{ap, ◌∙◌}
 use Rattle.machine.specs.Turns.{sp_turn, sp_turn_memory}
 use Rattle.ofersky.proofs.Handed.{handed_given}
-use borrow.Author.Rules.{rules}
 use Rattle.ofersky.proofs.lent.ofersky_sp_turn.Goals as goal
 
 pub returns : goal.returns

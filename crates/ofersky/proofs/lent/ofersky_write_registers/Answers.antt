@@ -1,6 +1,5 @@
 use Rattle.bursts.specs.Bursts.{write_registers}
 use Rattle.ofersky.proofs.Handed.{handed_given}
-use borrow.Author.Rules.{rules}
 use Rattle.ofersky.proofs.lent.ofersky_write_registers.Goals as goal
 
 pub returns : goal.returns

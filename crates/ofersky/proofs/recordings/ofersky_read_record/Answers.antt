@@ -1,6 +1,5 @@
 use mathlib.Core.Path.{sym}
 use Rattle.host.specs.Records.{reading_handed}
-use borrow.Author.Rules.{rules}
 use Rattle.ofersky.proofs.recordings.ofersky_read_record.Goals as goal
 
 pub returns : goal.returns

@@ -1,5 +1,4 @@
 use Rattle.ofersky.proofs.Handed.{replay_given}
-use borrow.Author.Rules.{rules}
 use Rattle.ofersky.proofs.recordings.ofersky_replay.Goals as goal
 
 pub returns : goal.returns

@@ -1,6 +1,5 @@
 use mathlib.Core.Path.{sym}
 use Rattle.host.specs.States.{decoded}
-use borrow.Author.Rules.{rules}
 use Rattle.ofersky.proofs.states.decoded.Goals as goal
 
 pub returns-then-flags : goal.returns-then-flags

@@ -1,5 +1,4 @@
 use Rattle.host.specs.States.{encoded}
-use borrow.Author.Rules.{rules}
 use Rattle.ofersky.proofs.states.encoded.Goals as goal
 
 pub returns : goal.returns

@@ -1,5 +1,4 @@
 use Rattle.host.specs.States.{flags}
-use borrow.Author.Rules.{rules}
 use Rattle.ofersky.proofs.states.flags.Goals as goal
 
 pub returns : goal.returns

@@ -1,6 +1,5 @@
 use mathlib.Core.Path.{sym}
 use Rattle.host.specs.States.{handed}
-use borrow.Author.Rules.{rules}
 use Rattle.ofersky.proofs.states.handed.Goals as goal
 
 pub returns-then-flags : goal.returns-then-flags

@@ -1,5 +1,4 @@
 use Rattle.player.proofs.Noting.{flag_byte}
-use borrow.Author.Rules.{rules}
 use Rattle.ofersky.proofs.states.sp_encoded.Goals as goal
 
 pub returns : goal.returns

@@ -1,4 +1,3 @@
-use borrow.Author.Rules.{rules}
 use Rattle.player.proofs.Performing.{dp_run_performed}
 use Rattle.player.proofs.effects.dp_run_listed.Goals as goal
 

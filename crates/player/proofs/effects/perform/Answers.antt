@@ -1,7 +1,6 @@
 use mathlib.Core.Path.{refl}
 use Rattle.playback.specs.Effects.{after, line}
-use Rattle.player.proofs.Performing.{unlisted_call, listed_call, run_arm, state_kept, no_line}
-use borrow.Author.Rules.{rules}
+use Rattle.player.proofs.Performing.{unlisted_call, listed_call, state_kept, no_line}
 use Rattle.player.proofs.effects.perform.Goals as goal
 
 pub returns-in-None : goal.returns-in-None

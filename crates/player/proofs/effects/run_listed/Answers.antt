@@ -1,4 +1,3 @@
-use borrow.Author.Rules.{rules}
 use Rattle.player.proofs.Performing.{run_performed}
 use Rattle.player.proofs.effects.run_listed.Goals as goal
 

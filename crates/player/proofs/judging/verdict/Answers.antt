@@ -1,5 +1,4 @@
 use Rattle.playback.proofs.Judging.{verdict_given}
-use borrow.Author.Rules.{rules}
 use Rattle.player.proofs.judging.verdict.Goals as goal
 
 pub returns : goal.returns

@@ -1,7 +1,5 @@
-use native.Mathlib.Omega.{arith}
 use Rattle.playback.specs.Promised.{noted}
-use Rattle.player.proofs.Noting.{flag_byte, one_more}
-use borrow.Author.Rules.{rules}
+use Rattle.player.proofs.Noting.{flag_byte}
 use Rattle.player.proofs.playing.noted.Goals as goal
 
 pub returns-then-differed-f : goal.returns-then-differed-f

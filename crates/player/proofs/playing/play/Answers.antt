@@ -1,17 +1,15 @@
-use Prim.Native.Nat.{ℕ, ◌-◌, ◌≤◌, ◌<◌}
+use Prim.Native.Nat.{ℕ, ◌≤◌, ◌<◌}
 use mathlib.Core.Path.{◌≡◌, refl, ◌∙◌}
 use native.Mathlib.Omega.{arith}
 use mathlib.Core.List.{List}
 use lib.ListN.{length}
 use borrow.Author.Rules.{rules}
 use Rattle.words.specs.Memory.{memory}
-use Rattle.laws.specs.World.{world}
 use Rattle.recording.specs.declared.Reading.{Reading}
 use Rattle.recording.specs.Reader.{longest, read_record}
-use Rattle.recording.proofs.Splitting.{split_at, moves_on}
-use Rattle.playback.specs.Findings.{no_findings}
-use Rattle.playback.proofs.Found.{few_noted, Quiet, quiet_none, quiet_noted}
-use Rattle.playback.proofs.Steps.{Leads, next_record, stopped, finished, plays}
+use Rattle.recording.proofs.Splitting.{moves_on}
+use Rattle.playback.proofs.Found.{few_noted, quiet_none, quiet_noted}
+use Rattle.playback.proofs.Steps.{next_record, stopped, finished, plays}
 use Rattle.player.proofs.playing.play.Goals as goal
 
 -- The reader goes on, and stays within the recording

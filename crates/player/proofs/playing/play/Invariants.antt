@@ -1,12 +1,12 @@
-use Prim.Native.Nat.{ℕ, ◌-◌, ◌≤◌, ◌<◌}
-use mathlib.Core.Path.{◌≡◌, refl, ◌∙◌}
+use Prim.Native.Nat.{◌-◌, ◌≤◌}
+use mathlib.Core.Path.{◌≡◌}
 use lib.ListN.{length}
 use Rattle.words.specs.Memory.{memory}
 use Rattle.laws.specs.World.{world}
-use Rattle.recording.proofs.Splitting.{split_at, moves_on}
+use Rattle.recording.proofs.Splitting.{split_at}
 use Rattle.playback.specs.Findings.{no_findings}
-use Rattle.playback.proofs.Found.{few_noted, Quiet, quiet_none, quiet_noted}
-use Rattle.playback.proofs.Steps.{Leads, next_record, stopped, finished, plays}
+use Rattle.playback.proofs.Found.{Quiet}
+use Rattle.playback.proofs.Steps.{Leads}
 use Rattle.player.proofs.playing.play.Given as goal
 
 abbrev pub invariant-loop-at : goal.invariant-loop-at

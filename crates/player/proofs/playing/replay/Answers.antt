@@ -2,7 +2,6 @@ use mathlib.Core.Path.{refl, sym, ◌∙◌}
 use native.Mathlib.Omega.{arith}
 use Rattle.playback.proofs.Begins.{short_enough}
 use Rattle.playback.proofs.Steps.{replays_begun, replays_not}
-use borrow.Author.Rules.{rules}
 use Rattle.player.proofs.playing.replay.Goals as goal
 
 pub play-requires : goal.play-requires

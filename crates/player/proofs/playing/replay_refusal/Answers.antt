@@ -1,4 +1,3 @@
-use borrow.Author.Rules.{rules}
 use Rattle.playback.specs.Replay.{replay_refusal}
 use Rattle.player.proofs.playing.replay_refusal.Goals as goal
 

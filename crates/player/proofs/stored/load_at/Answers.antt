@@ -1,4 +1,3 @@
-use borrow.Author.Rules.{rules}
 use Rattle.player.proofs.Performing.{load-rdram, load-dmem, load-imem}
 use Rattle.player.proofs.stored.load_at.Goals as goal
 

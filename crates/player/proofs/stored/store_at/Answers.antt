@@ -1,4 +1,3 @@
-use borrow.Author.Rules.{rules}
 use Rattle.player.proofs.Performing.{store-rdram, store-dmem, store-imem}
 use Rattle.player.proofs.stored.store_at.Goals as goal
 

@@ -1,4 +1,3 @@
-use borrow.Author.Rules.{rules}
 use Rattle.recording.specs.Kinds.{record_of}
 use Rattle.reader.proofs.fields.record_of.Goals as goal
 

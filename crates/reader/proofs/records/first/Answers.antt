@@ -1,5 +1,4 @@
 use mathlib.Core.Path.{sym, ap, ◌∙◌}
-use borrow.Author.Rules.{rules}
 use Rattle.recording.specs.Reader.{refused}
 use Rattle.recording.proofs.Accepted.{first_found, first_refused}
 use Rattle.reader.proofs.records.first.Goals as goal

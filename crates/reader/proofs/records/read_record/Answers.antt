@@ -5,7 +5,6 @@ use native.Mathlib.Nat.{le_refl}
 use native.Mathlib.Omega.{arith}
 use lib.ListN.{length, drop, take, length-drop}
 use lib.Seq.{take_all}
-use borrow.Author.Rules.{rules}
 use Rattle.recording.specs.declared.Reading.{Reading}
 use Rattle.recording.specs.Reader.{first}
 use Rattle.recording.proofs.Accepted.{first_within, read_long, read_found, read_refused, read_past}

@@ -1,4 +1,3 @@
-use borrow.Author.Rules.{rules}
 use Rattle.recording.specs.Reader.{record_number}
 use Rattle.reader.proofs.records.record_number.Goals as goal
 

@@ -1,7 +1,6 @@
 -- The code tests bit 0 as v % 2, the definition as v / 2 ^ 0 % 2: `div-one` joins the two.
 use native.Mathlib.Nat.{div-one}
 use Rattle.dp.specs.Registers.{modes_written}
-use borrow.Author.Rules.{rules}
 use Rattle.registers.proofs.dp_access.modes_written.Goals as goal
 
 pub returns : goal.returns

@@ -1,7 +1,6 @@
 -- Each arm by its test; `sym` puts the code's answer of `sets_flush` for the test in the definition.
 use mathlib.Core.Path.{sym}
 use Rattle.dp.specs.Registers.{dp_status_written}
-use borrow.Author.Rules.{rules}
 use Rattle.registers.proofs.dp_access.status_written.Goals as goal
 
 pub returns-then-sets_flush : goal.returns-then-sets_flush

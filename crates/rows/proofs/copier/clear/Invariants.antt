@@ -1,8 +1,8 @@
 -- At each test of the loop the first i bytes are zeros and the others are as they were.
-use Prim.Native.Nat.{ℕ, ◌-◌, ◌≤◌}
+use Prim.Native.Nat.{◌-◌, ◌≤◌}
 use mathlib.Core.Path.{◌≡◌}
-use lib.ListN.{length, replicate, length-set}
-use lib.Seq.{paste, paste-zero}
+use lib.ListN.{length, replicate}
+use lib.Seq.{paste}
 use Rattle.rows.proofs.copier.clear.Given as goal
 
 abbrev pub invariant-loop-i : goal.invariant-loop-i

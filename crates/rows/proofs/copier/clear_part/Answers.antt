@@ -1,4 +1,3 @@
-use borrow.Author.Rules.{rules}
 use Rattle.rows.proofs.Words.{cleared}
 use Rattle.rows.proofs.copier.clear_part.Goals as goal
 

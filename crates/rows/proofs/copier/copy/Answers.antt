@@ -1,11 +1,8 @@
 -- At each test of the first loop the first i bytes between are the source's; at each of the second the first j of the target are those between.
-use Prim.Native.Nat.{ℕ, ◌-◌, ◌≤◌, min}
-use mathlib.Core.Path.{◌≡◌, refl, ap, ◌∙◌}
 use native.Mathlib.Omega.{arith}
-use lib.ListN.{length, replicate, length-set}
-use lib.Seq.{paste}
+use lib.ListN.{length-set}
 use borrow.Author.Rules.{rules}
-use Rattle.rows.proofs.Copied.{copy_step, copied_all}
+use Rattle.rows.proofs.Copied.{copy_step}
 use Rattle.rows.proofs.copier.copy.Goals as goal
 
 pub loop-j-preserved : goal.loop-j-preserved

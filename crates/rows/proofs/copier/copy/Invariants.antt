@@ -1,7 +1,7 @@
 -- At each test of the first loop the first i bytes between are the source's; at each of the second the first j of the target are those between.
-use Prim.Native.Nat.{ℕ, ◌-◌, ◌≤◌, min}
-use mathlib.Core.Path.{◌≡◌, refl, ap, ◌∙◌}
-use lib.ListN.{length, replicate, length-set}
+use Prim.Native.Nat.{◌-◌, ◌≤◌, min}
+use mathlib.Core.Path.{◌≡◌}
+use lib.ListN.{length}
 use lib.Seq.{paste}
 use Rattle.rows.proofs.copier.copy.Given as goal
 

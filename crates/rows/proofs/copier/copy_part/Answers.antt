@@ -1,4 +1,3 @@
-use borrow.Author.Rules.{rules}
 use Rattle.rows.proofs.Words.{copied}
 use Rattle.rows.proofs.copier.copy_part.Goals as goal
 

@@ -1,5 +1,4 @@
 use borrow.Author.Tests.{lt-ltb, le-ltb}
-use borrow.Author.Rules.{rules}
 use Rattle.words.specs.Memory.{memory}
 use Rattle.rows.proofs.Inside.{between_dmem, between_imem}
 use Rattle.rows.proofs.pieces.move_piece.Goals as goal

@@ -1,4 +1,3 @@
-use borrow.Author.Rules.{rules}
 use Rattle.words.specs.Memory.{memory}
 use Rattle.rows.proofs.Inside.{piece_state, piece_bytes}
 use Rattle.rows.proofs.pieces.piece.Goals as goal

@@ -1,12 +1,9 @@
 -- At each test of the loop: the row's turns but those left were taken, and while some are left the engine is inside the row.
-use Prim.Native.Nat.{◌+◌, ◌-◌, ◌/◌, ◌<◌, ◌≤◌}
-use mathlib.Core.Path.{◌≡◌, refl, sym, ◌∙◌}
-use mathlib.Core.Bool.{true}
+use Prim.Native.Nat.{◌+◌, ◌/◌}
+use mathlib.Core.Path.{refl, sym, ◌∙◌}
 use native.Mathlib.Omega.{arith}
-use lib.ListN.{length}
 use borrow.Author.Rules.{rules}
 use Rattle.words.specs.Memory.{memory}
-use Rattle.sp.specs.Turn.{sp_after, memory_after}
 use Rattle.sp.proofs.Rows.{row_busy}
 use Rattle.rows.proofs.Inside.{row_start, row_start_bytes, row_state, row_bytes, row_inside, row_end, row_none}
 use Rattle.rows.proofs.pieces.row.Goals as goal
@@ -40,8 +37,8 @@ pub returns-then-s : goal.returns-then-s
 returns-then-s c =
     let a = c.args in
     let e =
-      row_end a.s (memory a.rdram.now a.dmem.now a.imem.now) c.loop-left.left (omega (arith, c.loop-left-test.false))
-      (sym (row_busy a.s c.if-s.true)) c.loop-left.invariant.2 c.loop-left.invariant.3
+    row_end a.s (memory a.rdram.now a.dmem.now a.imem.now) c.loop-left.left (omega (arith, c.loop-left-test.false))
+    (sym (row_busy a.s c.if-s.true)) c.loop-left.invariant.2 c.loop-left.invariant.3
     in
     record { registers = e.0; bytes = e.1 }
 

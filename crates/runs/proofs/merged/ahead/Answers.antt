@@ -1,5 +1,4 @@
-use Rattle.std.proofs.Common.{arith, rules}
-use Rattle.runs.proofs.Alone.{has_turn, ahead_some, ahead_none}
+use Rattle.runs.proofs.Alone.{ahead_some, ahead_none}
 use Rattle.runs.proofs.merged.ahead.Goals as goal
 
 pub returns-then-moved-spbudget : goal.returns-then-moved-spbudget

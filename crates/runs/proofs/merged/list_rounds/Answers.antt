@@ -1,11 +1,8 @@
 -- Between two rounds: whoever finishes the run from here has finished the whole run, whatever the SP is, as long as its turn is passed over.
-use Rattle.std.proofs.Common.{◌≡◌, ℕ, false, List, [], length, refl, ◌∙◌, rules}
+use Rattle.std.proofs.Common.{◌∙◌}
 use Rattle.words.specs.Memory.{memory}
-use Rattle.sp.specs.declared.SpState.{SpState}
-use Rattle.sp.specs.State.{sp_power_up}
-use Rattle.machine.specs.Runs.{sp, acts, left, merged}
 use Rattle.runs.specs.Standing.{standing, cut_to}
-use Rattle.runs.proofs.Rounds.{list_round_of, list_lives, less, again, over}
+use Rattle.runs.proofs.Rounds.{list_round_of, list_lives, again, over}
 use Rattle.runs.proofs.merged.list_rounds.Goals as goal
 
 pub loop-lengths-preserved : goal.loop-lengths-preserved

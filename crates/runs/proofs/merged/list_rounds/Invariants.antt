@@ -1,5 +1,5 @@
 -- Between two rounds: whoever finishes the run from here has finished the whole run, whatever the SP is, as long as its turn is passed over.
-use Rattle.std.proofs.Common.{◌≡◌, ℕ, false, List, [], length, refl, ◌∙◌, rules}
+use Rattle.std.proofs.Common.{◌≡◌, ℕ, false, List, [], length}
 use Rattle.words.specs.Memory.{memory}
 use Rattle.sp.specs.declared.SpState.{SpState}
 use Rattle.sp.specs.State.{sp_power_up}

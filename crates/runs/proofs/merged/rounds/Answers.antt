@@ -1,4 +1,3 @@
-use Rattle.std.proofs.Common.{rules}
 use Rattle.runs.proofs.Rounds.{done}
 use Rattle.runs.proofs.merged.rounds.Goals as goal
 

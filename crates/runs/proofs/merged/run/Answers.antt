@@ -1,4 +1,3 @@
-use Rattle.std.proofs.Common.{rules}
 use Rattle.runs.proofs.Promised.{run_done, run_declined}
 use Rattle.runs.proofs.merged.run.Goals as goal
 

@@ -1,12 +1,10 @@
 -- Between two rounds, or before the SP's words at once: whoever finishes the run from here has finished the whole run, and `on` says whether a DP turn or
 -- a consumer turn acts. Lent memory and output keep their lengths.
-use Rattle.std.proofs.Common.{◌≡◌, ◌||◌, length, refl, ◌∙◌, rules}
+use Rattle.std.proofs.Common.{◌∙◌}
 use Rattle.words.specs.Memory.{memory}
-use Rattle.dp.specs.Tried.{may_fetch, may_consume}
-use Rattle.machine.specs.Runs.{left, merged}
-use Rattle.runs.specs.Standing.{standing, cut_to, end_from}
+use Rattle.runs.specs.Standing.{standing, cut_to}
 use Rattle.runs.proofs.Rounds.{round_of, sp_round_of, less, sp_lives}
-use Rattle.runs.proofs.Alone.{within, within_count, Between, entered, sp_again, all_again, moves_one, ahead_rest, ahead_less}
+use Rattle.runs.proofs.Alone.{within, within_count, sp_again, all_again, moves_one, ahead_rest}
 use Rattle.runs.proofs.merged.sp_rounds.Goals as goal
 
 pub loop-moved-2-smaller-then-on : goal.loop-moved-2-smaller-then-on

@@ -1,5 +1,4 @@
 use borrow.Author.Tests.{lt-ltb, le-ltb}
-use borrow.Author.Rules.{rules}
 use Rattle.sp.specs.Rows.{advanced}
 use Rattle.sp.proofs.SpState.advance.Goals as goal
 

@@ -1,4 +1,3 @@
-use borrow.Author.Rules.{rules}
 use Rattle.sp.specs.Transfer.{ended}
 use Rattle.sp.proofs.SpState.ended.Goals as goal
 

@@ -1,4 +1,3 @@
-use borrow.Author.Rules.{rules}
 use Rattle.sp.specs.Transfer.{length_written}
 use Rattle.sp.proofs.SpState.length_written.Goals as goal
 

@@ -1,5 +1,4 @@
 use mathlib.Core.Path.{sym}
-use borrow.Author.Rules.{rules}
 use Rattle.words.specs.Memory.{memory}
 use Rattle.sp.proofs.Turn.{move_idle, move_dmem, move_imem}
 use Rattle.sp.proofs.SpState.move_word.Goals as goal

@@ -1,5 +1,4 @@
 use borrow.Author.Tests.{lt-ltb, le-ltb}
-use borrow.Author.Rules.{rules}
 use Rattle.sp.specs.Turn.{sp_next}
 use Rattle.sp.proofs.SpState.next.Goals as goal
 

@@ -1,4 +1,3 @@
-use borrow.Author.Rules.{rules}
 use Rattle.sp.specs.Transfer.{next_word}
 use Rattle.sp.proofs.SpState.next_word.Goals as goal
 

@@ -1,4 +1,3 @@
-use borrow.Author.Rules.{rules}
 use Rattle.sp.specs.Transfer.{started}
 use Rattle.sp.proofs.SpState.started.Goals as goal
 

@@ -1,4 +1,3 @@
-use borrow.Author.Rules.{rules}
 use Rattle.sp.proofs.turns.move_between.Goals as goal
 
 pub returns-then-storing : goal.returns-then-storing

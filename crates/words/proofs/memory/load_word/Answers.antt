@@ -5,7 +5,6 @@ use lib.ListN.{length}
 use borrow.Author.Tests.{le-leb}
 use Rattle.words.specs.Memory.{load_word, bytes_at}
 use Rattle.words.proofs.Bytes.{load_past}
-use borrow.Author.Rules.{rules}
 use Rattle.words.proofs.memory.load_word.Goals as goal
 
 pub returns-then-word_places-at : goal.returns-then-word_places-at

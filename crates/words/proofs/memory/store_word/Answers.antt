@@ -2,7 +2,6 @@ use mathlib.Core.Path.{sym}
 use native.Mathlib.Omega.{arith}
 use lib.ListN.{length-set}
 use Rattle.words.proofs.Bytes.{store_past, stored_bytes}
-use borrow.Author.Rules.{rules}
 use Rattle.words.proofs.memory.store_word.Goals as goal
 
 pub returns-then-word_places-at : goal.returns-then-word_places-at

@@ -1,4 +1,3 @@
-use borrow.Author.Rules.{rules}
 use Rattle.words.specs.Memory.{word_bytes}
 use Rattle.words.proofs.memory.word_bytes.Goals as goal
 

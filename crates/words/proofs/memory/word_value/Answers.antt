@@ -1,5 +1,4 @@
 use Rattle.words.proofs.Bytes.{value_bytes}
-use borrow.Author.Rules.{rules}
 use Rattle.words.proofs.memory.word_value.Goals as goal
 
 pub returns : goal.returns

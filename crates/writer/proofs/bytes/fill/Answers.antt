@@ -1,4 +1,3 @@
-use borrow.Author.Rules.{rules}
 use Rattle.writer.proofs.Filled.{filled}
 use Rattle.writer.proofs.bytes.fill.Goals as goal
 

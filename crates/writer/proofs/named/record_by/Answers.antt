@@ -1,4 +1,3 @@
-use borrow.Author.Rules.{rules}
 use Rattle.recording.specs.Fields.{record_by}
 use Rattle.writer.proofs.named.record_by.Goals as goal
 

@@ -1,4 +1,3 @@
-use borrow.Author.Rules.{rules}
 use Rattle.recording.specs.Writer.{write_number}
 use Rattle.writer.proofs.records.write_number.Goals as goal
 
