@@ -1,8 +1,8 @@
 /* Calls every function of the library from C, with good and bad input, and checks the answers
  * against values worked out from the rules. The layout of every struct is checked at compile time.
  *
- *     rt staticlib ofersky
- *     cc -I c c/every_call.c target/staticlib/libofersky.a -o every_call && ./every_call
+ *     (cd crates/ofersky && rt lib)
+ *     cc -I c c/every_call.c crates/ofersky/out/libofersky.a -o every_call && ./every_call
  *
  * It writes a line for each message and for each check that fails, and last how many there were.
  * Its status is 0 if none failed.

@@ -7,8 +7,8 @@
  * - writes the first load as a recording and replays it: as it is, with a wrong expectation,
  *   without its read, and with a bad address.
  *
- *     rt staticlib ofersky
- *     cc -I c c/example.c target/staticlib/libofersky.a -o example && ./example
+ *     (cd crates/ofersky && rt lib)
+ *     cc -I c c/example.c crates/ofersky/out/libofersky.a -o example && ./example
  */
 #include "ofersky.h"
 
