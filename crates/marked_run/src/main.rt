@@ -44,8 +44,7 @@ fn digits(rt: &impl Print, n: u64) -> io::Result<()> {
         digit(n / 0x10),
         digit(n),
     ];
-    rt.write_all(&text)?;
-    Ok(())
+    rt.write_all(&text)
 }
 
 // Writes a number in eight digits, and what is above 32 bits before it, if anything is.
@@ -53,17 +52,11 @@ fn show(rt: &impl Print, n: u64) -> io::Result<()> {
     if 0xFFFFFFFF < n {
         digits(rt, n / 0x100000000)?;
     }
-    digits(rt, n)?;
-    Ok(())
+    digits(rt, n)
 }
 
 fn show_flag(rt: &impl Print, on: bool) -> io::Result<()> {
-    if on {
-        digits(rt, 1)?;
-    } else {
-        digits(rt, 0)?;
-    }
-    Ok(())
+    digits(rt, if on { 1 } else { 0 })
 }
 
 // The state that a call left. A declined call, which no example has, shows its number.
