@@ -1,7 +1,9 @@
 #!/usr/bin/env python3
-"""Spells the repository's own definitions and lemmas as Rattle does: words in snake case.
+"""Spelled the repository's own definitions and lemmas as Rattle does: words in snake case.
 
-usage: python3 tools/names.py     at the top of the repository, once, on what port.py left
+Its work is done. It rewrites files in place, so it asks for --rewrite.
+
+usage: python3 tools/names.py --rewrite     at the top of the repository, once, on what port.py left
 
 A name of specs/ or proofs/ that begins with a small letter and has a capital or a dash in it gets
 underscores: `bankAddress` and `bank-address` become `bank_address`. Where two names of one file would
@@ -14,6 +16,7 @@ edits, and the names between backquotes in README.md and docs/.
 import glob
 import os
 import re
+import sys
 
 WORD = r"[^\s(){}\[\],;.:=≡→×⊎λ\"`@⟦⟧/∷+*<>≤∙&|%^^]+"
 TOKEN = re.compile(r"[A-Za-z_][A-Za-z0-9_']*(?:-[A-Za-z0-9_']+)*")
@@ -171,4 +174,6 @@ def clauses(text):
 
 
 if __name__ == "__main__":
+    if sys.argv[1:] != ["--rewrite"]:
+        sys.exit("names.py rewrites files in place, and its work is done; see its first lines")
     main()

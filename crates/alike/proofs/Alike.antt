@@ -5,6 +5,7 @@ use mathlib.Core.Bool.{Bool, true, false, not, cond, ◌&&◌, ◌||◌}
 use mathlib.Core.List.{List, [], ◌∷◌, ◌++◌, head-eq_of_cons-eq, tail-eq_of_cons-eq}
 use native.Mathlib.Omega.{arith}
 use lib.Dec.{eqb, ltb}
+use Rattle.std.specs.Prelude.{Result, Ok, Err}
 use Rattle.words.specs.Bits.{as_bit}
 use Rattle.words.specs.Memory.{Memory, word_value, store_word, word_bytes}
 use Rattle.words.proofs.Tests.{by, contradiction}
@@ -26,7 +27,8 @@ use Rattle.dp.proofs.Unchanged.{end_keeps, status_keeps_queue}
 use Rattle.machine.specs.declared.State.{State}
 use Rattle.machine.specs.declared.Outcome.{Outcome}
 use Rattle.machine.specs.declared.Register.{Register}
-use Rattle.machine.specs.declared.Register.TheVariants.{Sp, Dp, Misaligned, Unmapped}
+use Rattle.machine.specs.declared.Register.TheVariants.{Sp, Dp}
+use Rattle.machine.specs.declared.refusal.AddressError.{AddressError}
 use Rattle.machine.specs.Sound.{with_dp, with_ring, sound}
 use Rattle.machine.specs.Address.{register_at}
 use Rattle.machine.specs.Refusals.{state_refusal, access_refusal, sp_refusal, dp_refusal, declined, ending, if_refused}
@@ -259,16 +261,19 @@ same_call s t n k o p e h g =
 same_outcome : {o p : Outcome} → sound o.state ≡ true → sound p.state ≡ true → Agree o p → SameOutcome o p
 same_outcome g h k = record { answer = k.0; states = alike g h k.1 }
 
-read_at_same : (r : Register) (s t : State) → Same s t → Agree (read_at r s) (read_at r t)
-read_at_same (Sp r) s t h =
+read_at_same : (r : Result Register AddressError) (s t : State) → Same s t
+    → Agree (read_at r s) (read_at r t)
+read_at_same (Ok (Sp r)) s t h =
     (λ i. record { number = 0; value = sp_read r (h.sp i); count = 0 }, record { sp = ap (sp_read_next r) h.sp; dp = h.dp; words = h.words })
-read_at_same (Dp r) s t h = (λ i. record { number = 0; value = read_same r s.dp t.dp h.dp i; count = 0 }, h)
-read_at_same Misaligned s t h = (refl, h)
-read_at_same Unmapped s t h = (refl, h)
+read_at_same (Ok (Dp r)) s t h =
+    (λ i. record { number = 0; value = read_same r s.dp t.dp h.dp i; count = 0 }, h)
+read_at_same (Err why) s t h = (refl, h)
 
-write_at_same : (r : Register) (s t : State) (v : ℕ) → Same s t → Agree (write_at r s v) (write_at r t v)
-write_at_same (Sp r) s t v h = (refl, record { sp = ap (λ x. sp_write r x v) h.sp; dp = h.dp; words = h.words })
-write_at_same (Dp r) s t v h = (
+write_at_same : (r : Result Register AddressError) (s t : State) (v : ℕ) → Same s t
+    → Agree (write_at r s v) (write_at r t v)
+write_at_same (Ok (Sp r)) s t v h =
+    (refl, record { sp = ap (λ x. sp_write r x v) h.sp; dp = h.dp; words = h.words })
+write_at_same (Ok (Dp r)) s t v h = (
   refl,
   record {
     sp = h.sp;
@@ -278,8 +283,7 @@ write_at_same (Dp r) s t v h = (
         ∙ sym (write_words r t.dp v t.queue);
   },
 )
-write_at_same Misaligned s t v h = (refl, h)
-write_at_same Unmapped s t v h = (refl, h)
+write_at_same (Err why) s t v h = (refl, h)
 
 module _ (s t : State) (a : Alike s t) where
   kept_first : Kept s

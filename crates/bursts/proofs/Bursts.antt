@@ -9,11 +9,14 @@ use lib.Dec.{leb, eqb}
 use lib.ListN.{length, get_or, drop, drop_of_length-le}
 use lib.Seq.{drop-cons}
 use borrow.Author.Tests.{eqb-true, leb-true}
+use Rattle.std.specs.Prelude.{Result, Ok, Err}
 use Rattle.words.proofs.Tests.{and_true}
 use Rattle.machine.specs.declared.State.{State}
 use Rattle.machine.specs.declared.Outcome.{Outcome}
 use Rattle.machine.specs.declared.Register.{Register}
-use Rattle.machine.specs.declared.Register.TheVariants.{Sp, Dp, Misaligned, Unmapped}
+use Rattle.machine.specs.declared.Register.TheVariants.{Sp, Dp}
+use Rattle.machine.specs.declared.refusal.AddressError.{AddressError}
+use Rattle.machine.specs.declared.refusal.AddressError.TheVariants.{Misaligned, Unmapped}
 use Rattle.machine.specs.Sound.{sound}
 use Rattle.machine.specs.Address.{register_at}
 use Rattle.machine.specs.Refusals.{register_number, state_refusal, access_refusal, check, declined, ending, if_refused}
@@ -30,28 +33,30 @@ pub write_sound : (s : State) (a v : ℕ) → sound s ≡ true → write_registe
 unfolding write_register access_refusal
 write_sound s a v e = rw e (at (register_at a))
   where
-    at : (r : Register) → if_refused (register_number r) (declined s (register_number r)) (write_at r s v) ≡ write_at r s v
-    at (Sp r) = refl
-    at (Dp r) = refl
-    at Misaligned = refl
-    at Unmapped = refl
+    at : (r : Result Register AddressError)
+        → if_refused (register_number r) (declined s (register_number r)) (write_at r s v)
+        ≡ write_at r s v
+    at (Ok (Sp r)) = refl
+    at (Ok (Dp r)) = refl
+    at (Err Misaligned) = refl
+    at (Err Unmapped) = refl
 
 -- The state with both engines as a write leaves them
-abbrev pub written : Register → State → ℕ → State
+abbrev pub written : Result Register AddressError → State → ℕ → State
 written r s v = record { sp = sp_written r s.sp v; dp = dp_written r s.dp v; queue = s.queue }
 
 -- Its number is that of what stands at the address; only where it is 0 is anything written
-pub write_number_lem : (r : Register) (s : State) (v : ℕ) → (write_at r s v).answer.number ≡ register_number r
-write_number_lem (Sp r) s v = refl
-write_number_lem (Dp r) s v = refl
-write_number_lem Misaligned s v = refl
-write_number_lem Unmapped s v = refl
+pub write_number_lem : (r : Result Register AddressError) (s : State) (v : ℕ)
+    → (write_at r s v).answer.number ≡ register_number r
+write_number_lem (Ok (Sp r)) s v = refl
+write_number_lem (Ok (Dp r)) s v = refl
+write_number_lem (Err why) s v = refl
 
-pub write_leaves : (r : Register) (s : State) (v : ℕ) → (write_at r s v).state ≡ written r s v
-write_leaves (Sp r) s v = refl
-write_leaves (Dp r) s v = refl
-write_leaves Misaligned s v = refl
-write_leaves Unmapped s v = refl
+pub write_leaves : (r : Result Register AddressError) (s : State) (v : ℕ)
+    → (write_at r s v).state ≡ written r s v
+write_leaves (Ok (Sp r)) s v = refl
+write_leaves (Ok (Dp r)) s v = refl
+write_leaves (Err why) s v = refl
 
 -- ---- The pairs from the i-th on
 
@@ -63,26 +68,30 @@ module _ (i : ℕ) (xs vs : List ℕ) (s : State) (h : i < length xs) (l : lengt
   first_pair = rw (drop-cons xs i 0 h, drop-cons vs i 0 (omega arith))
 
   -- The same by what stands at its address
-  pair_at : (r : Register) → register_at (get_or xs i 0) ≡ r → sound s ≡ true
+  pair_at : (r : Result Register AddressError) → register_at (get_or xs i 0) ≡ r → sound s ≡ true
       → writes_from i (drop i xs) (drop i vs) s
       ≡ if_refused (register_number r) (ending s (register_number r) i)
       (writes_from (suc i) (drop (suc i) xs) (drop (suc i) vs) (written r s (get_or vs i 0)))
   pair_at r e k =
       let w : write_register s (get_or xs i 0) (get_or vs i 0) ≡ write_at r s (get_or vs i 0) =
-      write_sound s (get_or xs i 0) (get_or vs i 0) k ∙ ap (λ (x : Register). write_at x s (get_or vs i 0)) e in
+      write_sound s (get_or xs i 0) (get_or vs i 0) k
+      ∙ ap (λ (x : Result Register AddressError). write_at x s (get_or vs i 0)) e in
       first_pair ∙ rw (w, write_number_lem r s (get_or vs i 0), write_leaves r s (get_or vs i 0))
 
   -- One that is written, and one that is refused
-  pub goes_on : (r : Register) → r ≡ register_at (get_or xs i 0) → sound s ≡ true → register_number r ≡ 0
+  pub goes_on : (r : Result Register AddressError) → r ≡ register_at (get_or xs i 0)
+      → sound s ≡ true → register_number r ≡ 0
       → writes_from (i + 1) (drop (i + 1) xs) (drop (i + 1) vs) (written r s (get_or vs i 0)) ≡ writes_from i (drop i xs) (drop i vs) s
   goes_on r e k n = rw add-one (sym (pair_at r (sym e) k ∙ if_accepted (register_number r) _ _ n))
 
-  pub stops_here : (r : Register) → r ≡ register_at (get_or xs i 0) → sound s ≡ true → (register_number r ≡ 0 → ⊥)
+  pub stops_here : (r : Result Register AddressError) → r ≡ register_at (get_or xs i 0)
+      → sound s ≡ true → (register_number r ≡ 0 → ⊥)
       → ending s (register_number r) i ≡ writes_from i (drop i xs) (drop i vs) s
   stops_here r e k n = sym (pair_at r (sym e) k ∙ if_refused_lem (register_number r) _ _ n)
 
   -- The state that it leaves is sound
-  pub pair_kept : (r : Register) → r ≡ register_at (get_or xs i 0) → sound s ≡ true → get_or vs i 0 < 0x100000000
+  pub pair_kept : (r : Result Register AddressError) → r ≡ register_at (get_or xs i 0)
+      → sound s ≡ true → get_or vs i 0 < 0x100000000
       → sound (written r s (get_or vs i 0)) ≡ true
   pair_kept r e k f =
       let v = get_or vs i 0 in

@@ -8,11 +8,14 @@ use native.Mathlib.Nat.{add-zero, add-suc}
 use lib.Dec.{ltb, eqb}
 use lib.ListN.{length, get_or, length-append}
 use borrow.Author.Tests.{eq-eqb, le-leb, lt-ltb, le-ltb, ltb-true, ltb-false}
+use Rattle.std.specs.Prelude.{Result, Ok, Err}
 use Rattle.words.proofs.Tests.{by, true_and}
 use Rattle.machine.specs.declared.State.{State}
 use Rattle.machine.specs.declared.Outcome.{Outcome}
 use Rattle.machine.specs.declared.Register.{Register}
-use Rattle.machine.specs.declared.Register.TheVariants.{Sp, Dp, Misaligned, Unmapped}
+use Rattle.machine.specs.declared.Register.TheVariants.{Sp, Dp}
+use Rattle.machine.specs.declared.refusal.AddressError.{AddressError}
+use Rattle.machine.specs.declared.refusal.AddressError.TheVariants.{Misaligned, Unmapped}
 use Rattle.machine.specs.Sound.{sound}
 use Rattle.machine.specs.Address.{aligned, register_at}
 use Rattle.machine.specs.Refusals.{is_register, register_number, state_refusal, check, ending, if_refused}
@@ -123,7 +126,7 @@ answered k (a ∷ xs) (v ∷ vs) s f l e =
     (answered (suc k) xs vs (write_at (register_at a) s v).state (λ i. f (suc i)) (omega arith)
     (rw (write_sound s a v e) at (write_kept s a v (f 0) e))))
   where
-    step : (t : State) (r : Register)
+    step : (t : State) (r : Result Register AddressError)
         → ((writes_from (suc k) xs vs t).answer.number ≡ first_number xs) × ((writes_from (suc k) xs vs t).answer.count ≡ suc k + leading xs)
         × ((writes_from (suc k) xs vs t).answer.value ≡ 0)
         → ((if_refused (register_number r) (ending s (register_number r) k) (writes_from (suc k) xs vs t)).answer.number
@@ -131,10 +134,10 @@ answered k (a ∷ xs) (v ∷ vs) s f l e =
         × ((if_refused (register_number r) (ending s (register_number r) k) (writes_from (suc k) xs vs t)).answer.count
         ≡ k + cond (is_register r) (suc (leading xs)) 0)
         × ((if_refused (register_number r) (ending s (register_number r) k) (writes_from (suc k) xs vs t)).answer.value ≡ 0)
-    step t (Sp r) h = (h.0, omega (arith, h.1), h.2)
-    step t (Dp r) h = (h.0, omega (arith, h.1), h.2)
-    step t Misaligned h = (refl, omega arith, refl)
-    step t Unmapped h = (refl, omega arith, refl)
+    step t (Ok (Sp r)) h = (h.0, omega (arith, h.1), h.2)
+    step t (Ok (Dp r)) h = (h.0, omega (arith, h.1), h.2)
+    step t (Err Misaligned) h = (refl, omega arith, refl)
+    step t (Err Unmapped) h = (refl, omega arith, refl)
 
 ltb_suc : (m n : ℕ) → ltb (suc m) (suc n) ≡ ltb m n
 ltb_suc m n =
@@ -148,15 +151,16 @@ unfolding first_number leading
 first_number_lem [] = refl
 first_number_lem (a ∷ xs) = go (register_at a) (register_number_lem a) (first_number_lem xs)
   where
-    go : (r : Register) → register_number r ≡ check (aligned a) 10 (check (is_register r) 5 0)
+    go : (r : Result Register AddressError)
+        → register_number r ≡ check (aligned a) 10 (check (is_register r) 5 0)
         → first_number xs ≡ cond (stops xs) (check (stop_aligned xs) 10 5) 0
         → if_refused (register_number r) (register_number r) (first_number xs)
         ≡ cond (ltb (cond (is_register r) (suc (leading xs)) 0) (suc (length xs)))
         (check (aligned (get_or (a ∷ xs) (cond (is_register r) (suc (leading xs)) 0) 0)) 10 5) 0
-    go (Sp r) e rest = rw (ltb_suc (leading xs) (length xs)) rest
-    go (Dp r) e rest = rw (ltb_suc (leading xs) (length xs)) rest
-    go Misaligned e rest = rw (lt-ltb 0 (suc (length xs)) (omega arith)) e
-    go Unmapped e rest = rw (lt-ltb 0 (suc (length xs)) (omega arith)) e
+    go (Ok (Sp r)) e rest = rw (ltb_suc (leading xs) (length xs)) rest
+    go (Ok (Dp r)) e rest = rw (ltb_suc (leading xs) (length xs)) rest
+    go (Err Misaligned) e rest = rw (lt-ltb 0 (suc (length xs)) (omega arith)) e
+    go (Err Unmapped) e rest = rw (lt-ltb 0 (suc (length xs)) (omega arith)) e
 
 -- The number of each case is given in it alone
 record ByTests (n : ℕ) (a b c d : Bool) : Type 0 where

@@ -1,6 +1,6 @@
 -- A replay from power-up whose buffers have room for every listing and for the line that sums it up.
 use Prim.Native.Nat.{ℕ, ◌≤◌}
-use mathlib.Core.Path.{◌≡◌, sym, subst, ◌∙◌}
+use mathlib.Core.Path.{◌≡◌, sym, ◌∙◌}
 use mathlib.Core.List.{List}
 use native.Mathlib.Omega.{arith}
 use lib.ListN.{length, take}
@@ -48,21 +48,16 @@ same_summary : (state : State) (s : List ℕ) (m : Memory) (d : List ℕ) (r : R
 same_summary state s m d r s' m' d' g =
     λ i. summary_of (judged (g.outcome i).answer.number (g.findings i)) (g.outcome i).answer.count (g.place i) (g.findings i)
 
--- The line of the verdict that was found
-pub by_verdict : {v v' : Verdict} {d d' : List ℕ} {p : ℕ} (r : Replayed) → v ≡ v' → v ≡ verdict r
-    → Put d 0 (summary_of v' r.outcome.answer.count r.place r.findings) d' p
-    → Put d 0 (summary_of (verdict r) r.outcome.answer.count r.place r.findings) d' p
-by_verdict {d = d} {d' = d'} {p = p} r known given put =
-    subst (λ (v : Verdict). Put d 0 (summary_of v r.outcome.answer.count r.place r.findings) d' p) (sym known ∙ given) put
-
 pub report_given : (state : State) (s : List ℕ) (m : Memory) (d : List ℕ) (r : Replayed) (s' : List ℕ) (m' : Memory) (d' : List ℕ)
-    → {l l' : List ℕ} (n : ℕ) → state ≡ power_up → longest_listing ≤ length d → length l ≡ 128 → ReplayGives state s m d r s' m' d'
-    → Put l 0 (summary_of (verdict r) r.outcome.answer.count r.place r.findings) l' n
+    → {l l' : List ℕ} {p : ℕ} (n : ℕ) → state ≡ power_up → longest_listing ≤ length d → length l ≡ 128
+    → ReplayGives state s m d r s' m' d'
+    → Put l 0 (summary_of (verdict r) r.outcome.answer.count r.place r.findings) l' p → n ≡ p
     → ReportGives s m (record { listing = r.written; summary = n }) m' d' l' × (IsPrefixLen r.written d' × IsPrefixLen n l')
-report_given state s m d r s' m' d' {l} {l'} n e room size g put =
+report_given state s m d r s' m' d' {l} {l'} n e room size g put at =
     let q : ReplayGives power_up s m d r s' m' d' = rw e at g in
     let x = has_room_lem power_up s m d r s' m' d' q room in
-    let y = whole_line _ size (summary_size (verdict r) r.outcome.answer.count r.place r.findings) put in (
+    let short = summary_size (verdict r) r.outcome.answer.count r.place r.findings in
+    let y = whole_line _ size short (rw at put) in (
       record { bytes = q.bytes; listing = x.1; summary = y.0 ∙ same_summary power_up s m d r s' m' d' q },
       (counts r.written d' x.0, counts n l' y.1),
     )

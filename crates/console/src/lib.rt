@@ -1,23 +1,23 @@
 // What the programs share: a recording comes in by a reader, is replayed from power-up, and is summed up in one line.
 #![tactic(auto)]
 
+ghost use Rattle.std.specs.Prelude.{MatchResult};
 ghost use Rattle.io.specs.Counts.{IsPrefixLen};
 ghost use Rattle.words.specs.Memory.{memory};
-ghost use Rattle.listing.specs.Put.{Put};
+ghost use Rattle.lines.specs.Wrote.{Wrote};
 ghost use Rattle.playback.specs.Verdict.{verdict};
 ghost use Rattle.console.specs.Promised.{summary_of, ReportGives};
 
 use checks::power_up;
-use lines::{put_differs, put_nothing_compared, put_passed, put_refused};
+use lines::Lines;
 use playback::{Replayed, Verdict};
 use player::{replay, verdict};
 use std::io::Read;
 
-// How many bytes came in, and whether a read failed before the end.
+// A read failed: how many bytes came before it.
 #[derive(Clone, Copy)]
-pub struct Input {
+pub struct Cut {
     pub length: usize,
-    pub failed: bool,
 }
 
 // How many bytes the listing has, and the line that sums it up.
@@ -27,44 +27,38 @@ pub struct Report {
     pub summary: usize,
 }
 
-// Reads until the input ends, the buffer is full or a read fails. Which bytes come is up to the system, and not proved.
-pub fn read_input<R: Read>(input: &mut R, buf: &mut [u8]) -> Input
-    ensures { IsPrefixLen result.length buf.new }
+// Reads until the input ends or the buffer is full, or up to a read that fails. Which bytes come is
+// up to the system, and not proved.
+pub fn read_input<R: Read>(input: &mut R, buf: &mut [u8]) -> Result<usize, Cut>
+    ensures { MatchResult result
+        (λ n. IsPrefixLen n buf.new) (λ cut. IsPrefixLen cut.length buf.new) }
 {
-    let mut length: usize = 0;
+    let mut length = 0;
     while length < buf.len() {
         match input.read(&mut buf[length..]) {
             Ok(0) => break,
             Ok(more) => length += more,
-            Err(_) => {
-                return Input {
-                    length,
-                    failed: true,
-                };
-            }
+            Err(_) => return Err(Cut { length }),
         }
     }
-    Input {
-        length,
-        failed: false,
-    }
+    Ok(length)
 }
 
 // Writes the line that sums up what a replay gave, made by its verdict.
-fn put_summary(out: &mut [u8], r: Replayed) -> usize
-    ensures { Put out.old 0 (summary_of (verdict r) r.outcome.answer.count r.place r.findings) out.new result }
+fn put_summary(lines: &mut Lines, r: Replayed)
+    ensures { Wrote (summary_of (verdict r) r.outcome.answer.count r.place r.findings)
+        lines.old lines.new }
 {
-    let outcome = r.outcome;
-    let answer = outcome.answer;
     let f = r.findings;
-    let v = verdict(r);
-    match v {
-        Verdict::Refused(number, _, _) => put_refused(out, 0, number, answer.count, r.place),
-        Verdict::Differs(compared, differed) => {
-            put_differs(out, 0, compared, differed, f.index, f.place)
+    match verdict(r) {
+        Verdict::Refused(number, _, _) => {
+            lines.put_refused(number, r.outcome.answer.count, r.place)
         }
-        Verdict::NothingCompared => put_nothing_compared(out, 0),
-        Verdict::Passed(compared) => put_passed(out, 0, compared),
+        Verdict::Differs(compared, differed) => {
+            lines.put_differs(compared, differed, f.index, f.place)
+        }
+        Verdict::NothingCompared => lines.put_nothing_compared(),
+        Verdict::Passed(compared) => lines.put_passed(compared),
     }
 }
 
@@ -83,9 +77,10 @@ pub fn judge(
     ensures summary_len { IsPrefixLen result.summary line.new }
 {
     let done = replay(power_up(), recording, rdram, dmem, imem, out);
-    let summary = put_summary(line, done);
+    let mut summary = Lines::new(line, 0);
+    put_summary(&mut summary, done);
     Report {
         listing: done.written,
-        summary,
+        summary: summary.at(),
     }
 }

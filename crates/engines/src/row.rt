@@ -12,11 +12,9 @@ pub fn sp_row(s: State, rdram: &mut [u8], dmem: &mut [u8], imem: &mut [u8]) -> O
     ensures { SpRowGives s (memory rdram.old dmem.old imem.old) result
         (memory rdram.new dmem.new imem.new) }
 {
-    let number = sp_refusal(s, rdram, dmem, imem);
-    if number == 0 {
-        let sp = s.sp;
-        let done = row(sp, rdram, dmem, imem);
-        return accepted(s.with_sp(done.state), 0, done.count);
+    if let Err(why) = sp_refusal(s, rdram, dmem, imem) {
+        return declined(s, why.into());
     }
-    declined(s, number)
+    let done = row(s.sp, rdram, dmem, imem);
+    accepted(s.with_sp(done.state), 0, done.count)
 }

@@ -10,22 +10,17 @@ fn main(rt: HostRuntime) -> io::Result<()> {
     let mut words = [0u8; 64];
     rdram[7] = b'*';
     // RDLEN 0x0F loads two words. The run has a budget for the SP, the DP and the consumer.
-    let started = calls::write_register(calls::power_up(), 0x04040008, 0x0F);
-    let state = started.state;
+    let state = calls::write_register(calls::power_up(), 0x04040008, 0x0F).state;
     let ran = calls::run(
         state, 100, 100, 100, &mut rdram, &mut dmem, &mut imem, &mut words,
     );
-    let done = ran.outcome;
-    let answer = done.answer;
+    let answer = ran.outcome.answer;
     if answer.number != 0 {
-        rt.write_all(b"refused\n")?;
-        return Ok(());
+        return println!(rt; "refused");
     }
-    // Two words, so one digit is enough.
-    let count = [b'0' + (answer.count % 10) as u8];
-    rt.write_all(&count)?;
-    rt.write_all(b" words moved, byte 7 of DMEM is ")?;
-    let byte = [dmem[7], b'\n'];
-    rt.write_all(&byte)?;
-    Ok(())
+    println!(rt;
+        "{} words moved, byte 7 of DMEM is {}",
+        answer.count,
+        char::from(dmem[7])
+    )
 }

@@ -1,5 +1,5 @@
 -- Readings as host programs get them: the record by its kind and fields.
-use Rattle.recording.specs.declared.Reading.{Reading}
+use Rattle.recording.specs.Reader.{Reading}
 use Rattle.recording.specs.Fields.{fields_of}
 use Rattle.host.specs.declared.HostReading.{HostReading}
 

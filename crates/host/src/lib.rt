@@ -1,5 +1,8 @@
-// The calls as host programs see them: structs of numbers and bytes that C and Rust can lay out. The definitions are in specs/; `ofersky` has the code.
+// The calls as host programs see them: structs of numbers and bytes that C and Rust can lay out, and
+// states made of these and back. The definitions are in specs/; `ofersky` has the calls.
 #![tactic(auto)]
+
+mod states; // states.rt: states handed over and back
 
 use machine::Answer;
 use playback::Findings;

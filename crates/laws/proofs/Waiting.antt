@@ -10,6 +10,7 @@ use native.Mathlib.Nat.{zero-add}
 use lib.Dec.{ltb, eqb}
 use lib.ListN.{length, get_or, take, drop}
 use borrow.Author.Tests.{ne_eqb, lt-ltb, le-ltb, ltb-false}
+use Rattle.std.specs.Prelude.{Result, Ok, Err}
 use Rattle.words.specs.Bits.{as_bit, bank_address, ram_address, ram_add}
 use Rattle.words.specs.Memory.{Memory}
 use Rattle.words.proofs.Tests.{by, contradiction}
@@ -28,7 +29,9 @@ use Rattle.sp.proofs.Left.{left_busy}
 use Rattle.machine.specs.declared.State.{State}
 use Rattle.machine.specs.declared.Outcome.{Outcome}
 use Rattle.machine.specs.declared.Register.{Register}
-use Rattle.machine.specs.declared.Register.TheVariants.{Sp, Dp, Misaligned, Unmapped}
+use Rattle.machine.specs.declared.Register.TheVariants.{Sp, Dp}
+use Rattle.machine.specs.declared.refusal.AddressError.{AddressError}
+use Rattle.machine.specs.declared.refusal.AddressError.TheVariants.{Misaligned, Unmapped}
 use Rattle.machine.specs.Sound.{power_up, with_sp, sound}
 use Rattle.machine.specs.Address.{in_block, register_at, first_copy, addresses}
 use Rattle.machine.specs.Refusals.{is_register, register_number, access_refusal, state_refusal, sp_refusal, dp_refusal, accepted, declined, ending, if_refused}
@@ -50,31 +53,33 @@ use Rattle.laws.specs.Waiting.{Event, reads, writes, bursts, ticks, breaks, ackn
 -- ---- What a write does, by the register at its address
 
 -- What the trace notes of it, whether it is a length word, and the SP registers that it leaves
-abbrev notes : Register → ℕ → Written → Written
-notes (Sp SpReg.SpAddr) v w = record { splatch = bank_address v; ramlatch = w.ramlatch; word = w.word; storing = w.storing }
-notes (Sp SpReg.RamAddr) v w = record { splatch = w.splatch; ramlatch = ram_address v; word = w.word; storing = w.storing }
-notes (Sp SpReg.RdLen) v w = record { splatch = w.splatch; ramlatch = w.ramlatch; word = v; storing = false }
-notes (Sp SpReg.WrLen) v w = record { splatch = w.splatch; ramlatch = w.ramlatch; word = v; storing = true }
-notes (Sp SpReg.Status) v w = w
-notes (Sp SpReg.DmaFull) v w = w
-notes (Sp SpReg.DmaBusy) v w = w
-notes (Sp SpReg.Semaphore) v w = w
-notes (Dp r) v w = w
-notes Misaligned v w = w
-notes Unmapped v w = w
+abbrev notes : Result Register AddressError → ℕ → Written → Written
+notes (Ok (Sp SpReg.SpAddr)) v w =
+    record { splatch = bank_address v; ramlatch = w.ramlatch; word = w.word; storing = w.storing }
+notes (Ok (Sp SpReg.RamAddr)) v w =
+    record { splatch = w.splatch; ramlatch = ram_address v; word = w.word; storing = w.storing }
+notes (Ok (Sp SpReg.RdLen)) v w =
+    record { splatch = w.splatch; ramlatch = w.ramlatch; word = v; storing = false }
+notes (Ok (Sp SpReg.WrLen)) v w =
+    record { splatch = w.splatch; ramlatch = w.ramlatch; word = v; storing = true }
+notes (Ok (Sp SpReg.Status)) v w = w
+notes (Ok (Sp SpReg.DmaFull)) v w = w
+notes (Ok (Sp SpReg.DmaBusy)) v w = w
+notes (Ok (Sp SpReg.Semaphore)) v w = w
+notes (Ok (Dp r)) v w = w
+notes (Err why) v w = w
 
-abbrev takes_length : Register → Bool
-takes_length (Sp SpReg.SpAddr) = false
-takes_length (Sp SpReg.RamAddr) = false
-takes_length (Sp SpReg.RdLen) = true
-takes_length (Sp SpReg.WrLen) = true
-takes_length (Sp SpReg.Status) = false
-takes_length (Sp SpReg.DmaFull) = false
-takes_length (Sp SpReg.DmaBusy) = false
-takes_length (Sp SpReg.Semaphore) = false
-takes_length (Dp r) = false
-takes_length Misaligned = false
-takes_length Unmapped = false
+abbrev takes_length : Result Register AddressError → Bool
+takes_length (Ok (Sp SpReg.SpAddr)) = false
+takes_length (Ok (Sp SpReg.RamAddr)) = false
+takes_length (Ok (Sp SpReg.RdLen)) = true
+takes_length (Ok (Sp SpReg.WrLen)) = true
+takes_length (Ok (Sp SpReg.Status)) = false
+takes_length (Ok (Sp SpReg.DmaFull)) = false
+takes_length (Ok (Sp SpReg.DmaBusy)) = false
+takes_length (Ok (Sp SpReg.Semaphore)) = false
+takes_length (Ok (Dp r)) = false
+takes_length (Err why) = false
 
 -- Two functions that agree on a list agree on each of its elements
 same_on : {A : Type 0} (f g : ℕ → A) (l : List ℕ) (a : ℕ) → map f l ≡ map g l → Memᴰ a l → f a ≡ g a
@@ -83,17 +88,16 @@ same_on f g (x ∷ l) a e (Memᴰ.head p) = ap f p ∙ ap (λ k. get_or k 0 (f x
 same_on f g (x ∷ l) a e (Memᴰ.tail h) = same_on f g l a (ap (drop 1) e) h
 
 -- Where no register stands, nothing is written
-none_noted : (r : Register) (v : ℕ) (w : Written) → is_register r ≡ false → w ≡ notes r v w
-none_noted (Sp r) v w e = contradiction refl e
-none_noted (Dp r) v w e = contradiction refl e
-none_noted Misaligned v w e = refl
-none_noted Unmapped v w e = refl
+none_noted : (r : Result Register AddressError) (v : ℕ) (w : Written) → is_register r ≡ false
+    → w ≡ notes r v w
+none_noted (Ok (Sp r)) v w e = contradiction refl e
+none_noted (Ok (Dp r)) v w e = contradiction refl e
+none_noted (Err why) v w e = refl
 
-none_taken : (r : Register) → is_register r ≡ false → false ≡ takes_length r
-none_taken (Sp r) e = contradiction refl e
-none_taken (Dp r) e = contradiction refl e
-none_taken Misaligned e = refl
-none_taken Unmapped e = refl
+none_taken : (r : Result Register AddressError) → is_register r ≡ false → false ≡ takes_length r
+none_taken (Ok (Sp r)) e = contradiction refl e
+none_taken (Ok (Dp r)) e = contradiction refl e
+none_taken (Err why) e = refl
 
 other : (a x : ℕ) → is_register (register_at x) ≡ true → is_register (register_at a) ≡ false → eqb a x ≡ false
 other a x p q = ne_eqb a x (λ e. contradiction p (ap (λ (b : ℕ). is_register (register_at b)) (sym e) ∙ q))
@@ -141,11 +145,10 @@ length_at a =
 write_leaves : (s : State) (a v : ℕ) → sound s ≡ true → (write_register s a v).state.sp ≡ sp_written (register_at a) s.sp v
 write_leaves s a v e = rw (write_sound s a v e) (at (register_at a))
   where
-    at : (r : Register) → (write_at r s v).state.sp ≡ sp_written r s.sp v
-    at (Sp r) = refl
-    at (Dp r) = refl
-    at Misaligned = refl
-    at Unmapped = refl
+    at : (r : Result Register AddressError) → (write_at r s v).state.sp ≡ sp_written r s.sp v
+    at (Ok (Sp r)) = refl
+    at (Ok (Dp r)) = refl
+    at (Err why) = refl
 
 -- ---- What was last written, and the registers
 
@@ -203,18 +206,18 @@ nothing : (s : SpState) → Still s s (λ w. w)
 nothing s = others s s (same_transfer s) refl refl
 
 -- A read changes no more than the semaphore
-read_still : (r : Register) (s : State) → Still s.sp (read_at r s).state.sp (λ w. w)
-read_still (Sp SpReg.SpAddr) s = nothing s.sp
-read_still (Sp SpReg.RamAddr) s = nothing s.sp
-read_still (Sp SpReg.RdLen) s = nothing s.sp
-read_still (Sp SpReg.WrLen) s = nothing s.sp
-read_still (Sp SpReg.Status) s = nothing s.sp
-read_still (Sp SpReg.DmaFull) s = nothing s.sp
-read_still (Sp SpReg.DmaBusy) s = nothing s.sp
-read_still (Sp SpReg.Semaphore) s = others s.sp (with_semaphore s.sp true) (search) refl refl
-read_still (Dp r) s = nothing s.sp
-read_still Misaligned s = nothing s.sp
-read_still Unmapped s = nothing s.sp
+read_still : (r : Result Register AddressError) (s : State)
+    → Still s.sp (read_at r s).state.sp (λ w. w)
+read_still (Ok (Sp SpReg.SpAddr)) s = nothing s.sp
+read_still (Ok (Sp SpReg.RamAddr)) s = nothing s.sp
+read_still (Ok (Sp SpReg.RdLen)) s = nothing s.sp
+read_still (Ok (Sp SpReg.WrLen)) s = nothing s.sp
+read_still (Ok (Sp SpReg.Status)) s = nothing s.sp
+read_still (Ok (Sp SpReg.DmaFull)) s = nothing s.sp
+read_still (Ok (Sp SpReg.DmaBusy)) s = nothing s.sp
+read_still (Ok (Sp SpReg.Semaphore)) s = others s.sp (with_semaphore s.sp true) (search) refl refl
+read_still (Ok (Dp r)) s = nothing s.sp
+read_still (Err why) s = nothing s.sp
 
 -- A call that may be declined
 quiet : (n : ℕ) (s : State) (done : Outcome) → Still s.sp done.state.sp (λ w. w)
@@ -222,23 +225,23 @@ quiet : (n : ℕ) (s : State) (done : Outcome) → Still s.sp done.state.sp (λ 
 quiet n s done h = either_way (λ t. Still s.sp t.sp (λ w. w)) n s done (nothing s.sp) h
 
 -- A write that starts or queues no transfer, by its register
-write_still : (r : Register) (s : SpState) (v : ℕ) → takes_length r ≡ false → Still s (sp_written r s v) (notes r v)
-write_still (Sp SpReg.SpAddr) s v l =
+write_still : (r : Result Register AddressError) (s : SpState) (v : ℕ) → takes_length r ≡ false
+    → Still s (sp_written r s v) (notes r v)
+write_still (Ok (Sp SpReg.SpAddr)) s v l =
     record { same = search; full = refl; holds = λ w h. record { splatch = refl; ramlatch = h.ramlatch; waiting = h.waiting; waitstoring = h.waitstoring } }
-write_still (Sp SpReg.RamAddr) s v l =
+write_still (Ok (Sp SpReg.RamAddr)) s v l =
     record { same = search; full = refl; holds = λ w h. record { splatch = h.splatch; ramlatch = refl; waiting = h.waiting; waitstoring = h.waitstoring } }
-write_still (Sp SpReg.RdLen) s v l = contradiction refl l
-write_still (Sp SpReg.WrLen) s v l = contradiction refl l
-write_still (Sp SpReg.Status) s v l = others s (sp_status_written s v) (search) refl refl
-write_still (Sp SpReg.DmaFull) s v l = nothing s
-write_still (Sp SpReg.DmaBusy) s v l = nothing s
-write_still (Sp SpReg.Semaphore) s v l = others s (with_semaphore s false) (search) refl refl
-write_still (Dp r) s v l = nothing s
-write_still Misaligned s v l = nothing s
-write_still Unmapped s v l = nothing s
+write_still (Ok (Sp SpReg.RdLen)) s v l = contradiction refl l
+write_still (Ok (Sp SpReg.WrLen)) s v l = contradiction refl l
+write_still (Ok (Sp SpReg.Status)) s v l = others s (sp_status_written s v) (search) refl refl
+write_still (Ok (Sp SpReg.DmaFull)) s v l = nothing s
+write_still (Ok (Sp SpReg.DmaBusy)) s v l = nothing s
+write_still (Ok (Sp SpReg.Semaphore)) s v l = others s (with_semaphore s false) (search) refl refl
+write_still (Ok (Dp r)) s v l = nothing s
+write_still (Err why) s v l = nothing s
 
 -- A write of v to s at an address of the register r
-record WriteTo (r : Register) (a v : ℕ) (s : State) : Type 0 where
+record WriteTo (r : Result Register AddressError) (a v : ℕ) (s : State) : Type 0 where
   leaves : (write_register s a v).state.sp ≡ sp_written r s.sp v
   written : (w : Written) → noted a v w ≡ notes r v w
   length : is_length a ≡ takes_length r
@@ -246,24 +249,24 @@ record WriteTo (r : Register) (a v : ℕ) (s : State) : Type 0 where
 write_effect : (a v : ℕ) (f : v < 0x100000000) (s : State) → sound s ≡ true → Effect (writes a v f) s
 write_effect a v f s h = at (register_at a) (record { leaves = write_leaves s a v h; written = notes_at a v; length = length_at a })
   where
-    short : (r : Register) → takes_length r ≡ false → WriteTo r a v s → Effect (writes a v f) s
+    short : (r : Result Register AddressError) → takes_length r ≡ false → WriteTo r a v s
+        → Effect (writes a v f) s
     short r e p =
         let k = write_still r s.sp v e in
         still (ap as_bit (p.length ∙ e)) refl
         (rw p.leaves (record { same = k.same; full = k.full; holds = λ w g. rw (p.written w) (k.holds w g) }))
 
-    at : (r : Register) → WriteTo r a v s → Effect (writes a v f) s
-    at (Sp SpReg.SpAddr) p = short (Sp SpReg.SpAddr) refl p
-    at (Sp SpReg.RamAddr) p = short (Sp SpReg.RamAddr) refl p
-    at (Sp SpReg.RdLen) p = wrote v false (ap as_bit p.length) refl p.leaves p.written
-    at (Sp SpReg.WrLen) p = wrote v true (ap as_bit p.length) refl p.leaves p.written
-    at (Sp SpReg.Status) p = short (Sp SpReg.Status) refl p
-    at (Sp SpReg.DmaFull) p = short (Sp SpReg.DmaFull) refl p
-    at (Sp SpReg.DmaBusy) p = short (Sp SpReg.DmaBusy) refl p
-    at (Sp SpReg.Semaphore) p = short (Sp SpReg.Semaphore) refl p
-    at (Dp r) p = short (Dp r) refl p
-    at Misaligned p = short Misaligned refl p
-    at Unmapped p = short Unmapped refl p
+    at : (r : Result Register AddressError) → WriteTo r a v s → Effect (writes a v f) s
+    at (Ok (Sp SpReg.SpAddr)) p = short (Ok (Sp SpReg.SpAddr)) refl p
+    at (Ok (Sp SpReg.RamAddr)) p = short (Ok (Sp SpReg.RamAddr)) refl p
+    at (Ok (Sp SpReg.RdLen)) p = wrote v false (ap as_bit p.length) refl p.leaves p.written
+    at (Ok (Sp SpReg.WrLen)) p = wrote v true (ap as_bit p.length) refl p.leaves p.written
+    at (Ok (Sp SpReg.Status)) p = short (Ok (Sp SpReg.Status)) refl p
+    at (Ok (Sp SpReg.DmaFull)) p = short (Ok (Sp SpReg.DmaFull)) refl p
+    at (Ok (Sp SpReg.DmaBusy)) p = short (Ok (Sp SpReg.DmaBusy)) refl p
+    at (Ok (Sp SpReg.Semaphore)) p = short (Ok (Sp SpReg.Semaphore)) refl p
+    at (Ok (Dp r)) p = short (Ok (Dp r)) refl p
+    at (Err why) p = short (Err why) refl p
 
 -- An SP turn, a row or a run leaves what its turns leave; declined, it takes none
 turn_leaves : (s : State) (m : Memory) → sp_refusal s m ≡ 0 → (sp_turn s m).state.sp ≡ sp_next s.sp
@@ -517,16 +520,16 @@ writes_several k (a ∷ xs) (v ∷ vs) s f l h =
     (write_several a v (f 0) s h)
     (writes_several (suc k) xs vs t (λ i. f (suc i)) (omega arith) (write_kept s a v (f 0) h))))
   where
-    at : (r : Register)
+    at : (r : Result Register AddressError)
         → Several (as_bit (is_length a) + lengths_among (take (leading xs) xs)) s.sp (writes_from (suc k) xs vs (write_register s a v).state).state.sp
         (λ w. noted_all (take (leading xs) xs) (take (leading xs) vs) (noted a v w))
         → Several (lengths_among (take (cond (is_register r) (suc (leading xs)) 0) (a ∷ xs))) s.sp
         (if_refused (register_number r) (ending s (register_number r) k) (writes_from (suc k) xs vs (write_register s a v).state)).state.sp
         (noted_all (take (cond (is_register r) (suc (leading xs)) 0) (a ∷ xs)) (take (cond (is_register r) (suc (leading xs)) 0) (v ∷ vs)))
-    at (Sp r) p = p
-    at (Dp r) p = p
-    at Misaligned p = none_several s.sp
-    at Unmapped p = none_several s.sp
+    at (Ok (Sp r)) p = p
+    at (Ok (Dp r)) p = p
+    at (Err Misaligned) p = none_several s.sp
+    at (Err Unmapped) p = none_several s.sp
 
 burst_several : (xs vs : List ℕ) (f : Words32 vs) (s : State) → sound s ≡ true
     → Several (lengths_of (bursts xs vs f)) s.sp (write_registers s xs vs).state.sp (note (bursts xs vs f))

@@ -1,94 +1,89 @@
 // The line that sums a replay up.
-ghost use Rattle.listing.specs.Put.{Put};
-ghost use Rattle.listing.specs.Summary.{counted, passed_line, differs_line, nothing_line, reason, refused_at, refused_line};
+ghost use Rattle.std.specs.Prelude.{◌≡◌};
+ghost use Rattle.listing.specs.Summary.{counted, passed_line, differs_line, nothing_line};
+ghost use Rattle.listing.specs.Summary.{reason, is_records, refused_at, refused_line};
+ghost use Rattle.lines.specs.Wrote.{Wrote};
 
-use crate::digits::put_decimal;
-use crate::text::put;
-
-// A text and a number.
-fn put_counted(out: &mut [u8], at: usize, text: &[u8], n: usize) -> usize
-    ensures { Put out.old at (counted text.now n) out.new result }
-{
-    let p1 = put(out, at, text);
-    put_decimal(out, p1, n)
-}
-
-// All that was compared is as expected.
-pub fn put_passed(out: &mut [u8], at: usize, compared: u32) -> usize
-    ensures { Put out.old at (passed_line compared) out.new result }
-{
-    let p1 = put_counted(out, at, b"passed, ", compared as usize);
-    put(out, p1, b" compared\n")
-}
-
-// How many differ, of how many compared, and where the first of them is.
-pub fn put_differs(
-    out: &mut [u8],
-    at: usize,
-    compared: u32,
-    differed: u32,
-    index: u32,
-    place: usize,
-) -> usize
-    ensures { Put out.old at (differs_line compared differed index place) out.new result }
-{
-    let p1 = put_counted(out, at, b"DIFFERS, ", differed as usize);
-    let p2 = put_counted(out, p1, b" of ", compared as usize);
-    let p3 = put_counted(out, p2, b"; first at record ", index as usize);
-    let p4 = put_counted(out, p3, b", byte ", place);
-    put(out, p4, b"\n")
-}
-
-// There is nothing that could have differed.
-pub fn put_nothing_compared(out: &mut [u8], at: usize) -> usize
-    ensures { Put out.old at nothing_line out.new result }
-{
-    put(out, at, b"NOTHING COMPARED: no record of kind 2 or 9\n")
-}
+use crate::text::Lines;
 
 // Why, by its number.
-fn put_reason(out: &mut [u8], at: usize, number: u32) -> usize
-    ensures { Put out.old at (reason number) out.new result }
+#[tactic(auto, unfolding(listing::specs::Summary::reason))]
+fn reason(number: u32) -> &'static [u8]
+    ensures { result.now ≡ reason number }
 {
-    if number == 7 {
-        return put(out, at, b"unknown kind");
+    match number {
+        7 => b"unknown kind",
+        8 => b"cut short",
+        10 => b"register address not a multiple of 4",
+        5 => b"no register at this address",
+        6 => b"memory address not allowed",
+        9 => b"longer than 16,383 bytes",
+        _ => b"not begun",
     }
-    if number == 8 {
-        return put(out, at, b"cut short");
-    }
-    if number == 10 {
-        return put(out, at, b"register address not a multiple of 4");
-    }
-    if number == 5 {
-        return put(out, at, b"no register at this address");
-    }
-    if number == 6 {
-        return put(out, at, b"memory address not allowed");
-    }
-    if number == 9 {
-        return put(out, at, b"longer than 16,383 bytes");
-    }
-    put(out, at, b"not begun")
 }
 
-// Which record, unless the replay did not begin.
-fn put_refused_at(out: &mut [u8], at: usize, number: u32, count: u32, place: usize) -> usize
-    ensures { Put out.old at (refused_at number count place) out.new result }
+// Whether a record was refused, and not the replay before its first.
+fn is_records(number: u32) -> bool
+    ensures { result ≡ is_records number }
 {
-    if (5 <= number) & (number != 9) {
-        let p1 = put_counted(out, at, b"REFUSED at record ", count as usize);
-        return put_counted(out, p1, b", byte ", place);
-    }
-    put(out, at, b"REFUSED")
+    5 <= number && number != 9
 }
 
-// Where and why it was refused.
-pub fn put_refused(out: &mut [u8], at: usize, number: u32, count: u32, place: usize) -> usize
-    ensures { Put out.old at (refused_line number count place) out.new result }
-{
-    let p1 = put_refused_at(out, at, number, count, place);
-    let p2 = put(out, p1, b": ");
-    let p3 = put_reason(out, p2, number);
-    let p4 = put_counted(out, p3, b" (", number as usize);
-    put(out, p4, b")\n")
+impl Lines<'_> {
+    // A text and a number.
+    fn put_counted(&mut self, text: &[u8], n: u64)
+        ensures { Wrote (counted text.now n) self.old self.new }
+    {
+        self.put(text);
+        self.put_decimal(n);
+    }
+
+    // All that was compared is as expected.
+    pub fn put_passed(&mut self, compared: u32)
+        ensures { Wrote (passed_line compared) self.old self.new }
+    {
+        self.put_counted(b"passed, ", compared as u64);
+        self.put(b" compared\n");
+    }
+
+    // How many differ, of how many compared, and where the first of them is.
+    pub fn put_differs(&mut self, compared: u32, differed: u32, index: u32, place: usize)
+        ensures { Wrote (differs_line compared differed index place) self.old self.new }
+    {
+        self.put_counted(b"DIFFERS, ", differed as u64);
+        self.put_counted(b" of ", compared as u64);
+        self.put_counted(b"; first at record ", index as u64);
+        self.put_counted(b", byte ", place as u64);
+        self.put(b"\n");
+    }
+
+    // There is nothing that could have differed.
+    pub fn put_nothing_compared(&mut self)
+        ensures { Wrote nothing_line self.old self.new }
+    {
+        self.put(b"NOTHING COMPARED: no record of kind 2 or 9\n");
+    }
+
+    // Which record, unless the replay did not begin.
+    fn put_refused_at(&mut self, number: u32, count: u32, place: usize)
+        ensures { Wrote (refused_at number count place) self.old self.new }
+    {
+        if is_records(number) {
+            self.put_counted(b"REFUSED at record ", count as u64);
+            self.put_counted(b", byte ", place as u64);
+        } else {
+            self.put(b"REFUSED");
+        }
+    }
+
+    // Where and why it was refused.
+    pub fn put_refused(&mut self, number: u32, count: u32, place: usize)
+        ensures { Wrote (refused_line number count place) self.old self.new }
+    {
+        self.put_refused_at(number, count, place);
+        self.put(b": ");
+        self.put(reason(number));
+        self.put_counted(b" (", number as u64);
+        self.put(b")\n");
+    }
 }

@@ -1,34 +1,41 @@
-// Bytes into the buffer.
-ghost use Rattle.std.specs.Prelude.{◌≡◌, ◌+◌, min, length, set};
-ghost use Rattle.listing.specs.Put.{Put};
+// A cursor in a lent buffer, and bytes written by it.
+ghost use Rattle.std.specs.Prelude.{◌≡◌, ◌≤◌, ◌∷◌, [], min, length};
 
-// One byte, if there is room, and the place after it.
-fn put_byte(out: &mut [u8], at: usize, b: u8) -> usize
-    ensures { (result ≡ min (at + 1) (length out.old)) × (out.new ≡ set out.old at b) }
-{
-    if at < out.len() {
-        out[at] = b;
-        return at + 1;
-    }
-    out.len()
+// A lent buffer, and the place in it where the next byte goes. A byte that finds no room is
+// dropped.
+#[derive(Drop)]
+pub struct Lines<'a> {
+    out: &'a mut [u8],
+    at: usize,
+    ghost inside: { at ≤ length out.now },
 }
 
-// A text, as far as there is room, and the place after it.
-pub(crate) fn put(out: &mut [u8], at: usize, text: &[u8]) -> usize
-    ensures { Put out.old at text.now out.new result }
-{
-    let mut place = put_nothing(out, at);
-    let mut i = 0;
-    while i < text.len() {
-        place = put_byte(out, place, text[i]);
-        i += 1;
-    }
-    place
-}
+impl<'a> Lines<'a> {
+    ghost use Rattle.lines.specs.Wrote.{Wrote};
 
-// No byte: the place, or the buffer's end if it lies past that.
-pub(crate) fn put_nothing(out: &[u8], at: usize) -> usize
-    ensures { result ≡ min at (length out.now) }
-{
-    if at < out.len() { at } else { out.len() }
+    // Lines from a place of the buffer on, or at its end if the place lies past that.
+    pub fn new(out: &'a mut [u8], at: usize) -> Lines<'a>
+        ensures same_buffer { result.out.ghost_name ≡ out.entry.ghost_name }
+        ensures bytes { result.out.now ≡ out.old }
+        ensures place { result.at ≡ min at (length out.old) }
+    {
+        let at = at.min(out.len());
+        Lines { out, at }
+    }
+
+    // The place after what was written.
+    pub fn at(&self) -> usize
+        ensures { result ≡ self.now.at }
+    {
+        self.at
+    }
+
+    // A text, as far as there is room.
+    pub(crate) fn put(&mut self, text: &[u8])
+        ensures { Wrote text.now self.old self.new }
+    {
+        let n = text.len().min(self.out.len() - self.at);
+        self.out[self.at..self.at + n].copy_from_slice(&text[..n]);
+        self.at += n;
+    }
 }

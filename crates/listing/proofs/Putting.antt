@@ -1,16 +1,17 @@
 -- Texts written one after another, and a text written from the buffer's start on.
-use Prim.Native.Nat.{ℕ, suc, ◌+◌, ◌≤◌, ◌<◌, min}
+use Prim.Native.Nat.{ℕ, suc, ◌+◌, ◌-◌, ◌≤◌, min}
 use mathlib.Core.Path.{◌≡◌, refl, sym, ap, ◌∙◌}
 use mathlib.Core.Bool.{Bool, true, false}
 use mathlib.Core.List.{List, [], ◌∷◌, ◌++◌}
 use native.Mathlib.Nat.{add-zero}
-use native.Mathlib.Numerals.{add-one}
 use native.Mathlib.Omega.{arith}
 use lib.Dec.{leb}
-use lib.ListN.{length, set, get_or, take, drop, length-append}
-use lib.Seq.{sets, length-sets, set_out, take-suc, take_all, take-append_seam, drop-append_seam, drop-nil}
+use lib.ListN.{length, set, take, drop, length-append}
+use lib.Seq.{sets, length-sets, set_out, take_all, take-append_seam, drop-append_seam, drop-nil}
+use lib.Seq.{length-take-le}
 use borrow.Author.Tests.{leb-true, leb-false}
-use Rattle.words.proofs.Bytes.{sets_append}
+use Rattle.std.proofs.lemmas.List.{take-append-drop}
+use Rattle.words.proofs.Bytes.{sets_append, part_set}
 use Rattle.listing.specs.Put.{Put}
 
 -- ---- A run of stores
@@ -27,6 +28,32 @@ sets_held d i j t e = at (leb i (length d)) refl
     at : (b : Bool) → leb i (length d) ≡ b → sets d j t ≡ sets d i t
     at true h = let same : j ≡ i = omega (arith, leb-true i (length d) h) in rw same
     at false h = sets_past d j t (omega (arith, leb-false i (length d) h)) ∙ sym (sets_past d i t (omega (arith, leb-false i (length d) h)))
+
+-- Bytes past the end are dropped: those that find room are the whole of it
+sets_room : (d t : List ℕ) (i n : ℕ) → i ≤ length d → n ≡ min (length t) (length d - i)
+    → sets d i (take n t) ≡ sets d i t
+sets_room d t i n h e = at (leb (length t) (length d - i)) refl
+  where
+    at : (b : Bool) → leb (length t) (length d - i) ≡ b → sets d i (take n t) ≡ sets d i t
+    at true k =
+        let all : n ≡ length t = omega (arith, e, leb-true (length t) (length d - i) k) in
+        ap (λ (l : List ℕ). sets d i l) (take_all n t (omega arith))
+    at false k =
+        let less = leb-false (length t) (length d - i) k in
+        let size : length (take n t) ≡ n = length-take-le n t (omega (arith, e)) in
+        let full : length (sets d i (take n t)) ≤ i + length (take n t) =
+        omega (arith, length-sets d i (take n t), size, e, less, h) in
+        sym (sets_past (sets d i (take n t)) (i + length (take n t)) (drop n t) full)
+        ∙ sym (sets_append d i (take n t) (drop n t))
+        ∙ ap (λ (l : List ℕ). sets d i l) (take-append-drop n t)
+
+-- As much of a text as finds room, copied over as many bytes
+pub copied : (d t ys : List ℕ) (i n : ℕ) → i ≤ length d → n ≡ min (length t) (length d - i)
+    → ys ≡ take n t → take i d ++ (ys ++ drop (i + n - i) (drop i d)) ≡ sets d i t
+copied d t ys i n h e same =
+    let size : length ys ≡ n = ap length same ∙ length-take-le n t (omega (arith, e)) in
+    part_set d ys i (i + n) (omega arith) (omega (arith, e, h)) (omega (arith, size))
+    ∙ ap (λ (l : List ℕ). sets d i l) same ∙ sets_room d t i n h e
 
 -- ---- Texts one after another
 
@@ -49,19 +76,6 @@ pub ◌then◌ : {d d' d'' : List ℕ} {at r r' : ℕ} {s t : List ℕ} → Put 
 -- No text, at a place that may lie past the end
 pub nothing : (d : List ℕ) (at r : ℕ) → r ≡ min at (length d) → Put d at [] d r
 nothing d at r e = record { place = rw add-zero e; bytes = refl }
-
--- One byte
-pub one : (d : List ℕ) (at a : ℕ) (d' : List ℕ) (r : ℕ) → r ≡ min (at + 1) (length d) → d' ≡ set d at a → Put d at (a ∷ []) d' r
-one d at a d' r e f = record { place = e; bytes = f }
-
--- One byte more of a text: a turn of the loop of `put`
-pub more : {d d' d'' : List ℕ} {at p r : ℕ} (t : List ℕ) (i : ℕ)
-    → Put d at (take i t) d' p
-    → i < length t
-    → r ≡ min (p + 1) (length d')
-    → d'' ≡ set d' p (get_or t i 0)
-    → Put d at (take (i + 1) t) d'' r
-more {d} {d'} {d''} {at} {p} {r} t i w h e f = rw (add-one, take-suc t i 0 h) (w then one d' p (get_or t i 0) d'' r e f)
 
 -- ---- From the start on
 

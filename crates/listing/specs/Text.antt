@@ -1,19 +1,20 @@
 -- The listing's lines, as bytes. Every line ends with LF.
-use Rattle.std.specs.Prelude.{ℕ, ◌+◌, ◌-◌, ◌*◌, ◌/◌, ◌%◌, Bool, cond, List, [], ◌∷◌, ◌++◌, eqb, ltb, get_or}
+use Rattle.std.specs.Prelude.{ℕ, ◌+◌, ◌-◌, ◌*◌, ◌/◌, ◌%◌, Bool, List, [], ◌∷◌, ◌++◌, codes}
+use Rattle.std.specs.Prelude.{if◌then◌else◌, ◌==◌, nat_lt, slice_index}
 
 abbrev pub Text : Type 0
 Text = List ℕ
 
--- `0` to `9` and `A` to `F`
+-- The digits of a number
 abbrev pub digits : Text
-digits = 48 ∷ 49 ∷ 50 ∷ 51 ∷ 52 ∷ 53 ∷ 54 ∷ 55 ∷ 56 ∷ 57 ∷ 65 ∷ 66 ∷ 67 ∷ 68 ∷ 69 ∷ 70 ∷ []
+digits = codes "0123456789ABCDEF"
 
 -- The last digit of a number
 abbrev pub hex_digit : ℕ → ℕ
-hex_digit n = get_or digits (n % 16) 0
+hex_digit n = slice_index digits (n % 16)
 
 abbrev pub decimal_digit : ℕ → ℕ
-decimal_digit n = get_or digits (n % 10) 0
+decimal_digit n = slice_index digits (n % 10)
 
 -- The last eight hex digits
 abbrev pub hex8 : ℕ → Text
@@ -30,37 +31,37 @@ hex8 n =
 
 -- Sixteen hex digits for a word, else eight
 unfoldable pub hex : Bool → ℕ → Text
-hex word n = cond word (hex8 (n / 0x100000000) ++ hex8 n) (hex8 n)
+hex word n = if word then hex8 (n / 0x100000000) ++ hex8 n else hex8 n
 
 -- The last decimal digit of a number; no digit for 0
 unfoldable pub leading : ℕ → Text
-leading n = cond (eqb n 0) [] (decimal_digit n ∷ [])
+leading n = if n == 0 then [] else decimal_digit n ∷ []
 
 -- A number below 100,000 in decimal
 unfoldable pub decimal : ℕ → Text
 decimal n = leading (n / 10000) ++ leading (n / 1000) ++ leading (n / 100) ++ leading (n / 10) ++ (decimal_digit n ∷ [])
 
--- The fixed texts: `replay 1` and LF; ` ok` and LF; ` expected `; `end `; `stop `
+-- The fixed texts
 abbrev pub header : Text
-header = 114 ∷ 101 ∷ 112 ∷ 108 ∷ 97 ∷ 121 ∷ 32 ∷ 49 ∷ 10 ∷ []
+header = codes "replay 1\n"
 
 abbrev pub ok_text : Text
-ok_text = 32 ∷ 111 ∷ 107 ∷ 10 ∷ []
+ok_text = codes " ok\n"
 
 abbrev pub expected_text : Text
-expected_text = 32 ∷ 101 ∷ 120 ∷ 112 ∷ 101 ∷ 99 ∷ 116 ∷ 101 ∷ 100 ∷ 32 ∷ []
+expected_text = codes " expected "
 
 abbrev pub end_text : Text
-end_text = 101 ∷ 110 ∷ 100 ∷ 32 ∷ []
+end_text = codes "end "
 
 abbrev pub stop_text : Text
-stop_text = 115 ∷ 116 ∷ 111 ∷ 112 ∷ 32 ∷ []
+stop_text = codes "stop "
 
 abbrev pub space : Text
-space = 32 ∷ []
+space = codes " "
 
 abbrev pub newline : Text
-newline = 10 ∷ []
+newline = codes "\n"
 
 -- A letter and a space
 abbrev pub head : ℕ → Text
@@ -85,7 +86,8 @@ run_line letter count = head letter ++ hex8 count ++ newline
 
 -- `ok`, or `expected` and the value expected
 unfoldable pub verdict : Bool → ℕ → ℕ → Text
-verdict word found expected = cond (eqb found expected) ok_text (expected_text ++ hex word expected ++ newline)
+verdict word found expected =
+    if found == expected then ok_text else expected_text ++ hex word expected ++ newline
 
 -- `R` or `L`, an address, the value found there, and the verdict
 unfoldable pub found_line : ℕ → Bool → ℕ → ℕ → ℕ → Text
@@ -103,7 +105,7 @@ stop_line count number place = stop_text ++ decimal count ++ space ++ decimal nu
 
 -- A digit's value, and digits read from the left after a number that was read before them
 abbrev pub digit_value : ℕ → ℕ
-digit_value b = cond (ltb b 65) (b - 48) (b - 55)
+digit_value b = if nat_lt b 65 then b - 48 else b - 55
 
 abbrev pub read_from : ℕ → ℕ → Text → ℕ
 read_from base n [] = n

@@ -9,9 +9,9 @@ ghost use Rattle.bursts.specs.Bursts.{write_registers};
 ghost use Rattle.host.specs.States.{decoded, handed, ran_handed};
 ghost use Rattle.host.specs.Parts.{placed, part_handed};
 
-use crate::states::{decoded, handed};
+use crate::states::handed;
 use host::{HostOutcome, HostPart, HostRan, HostState};
-use words::fields::pick;
+use machine::State;
 
 // A host hands over two lengths, so that unequal ones can come in.
 #[unsafe(no_mangle)]
@@ -23,7 +23,10 @@ pub extern "C" fn ofersky_write_registers(
     ensures outcome { result ≡ handed s (write_registers (decoded s) addresses.now values.now) }
     ensures kept { (addresses.exit.now ≡ addresses.entry.now) × (values.exit.now ≡ values.entry.now) }
 {
-    handed(s, access::write_registers(decoded(s), addresses, values))
+    handed(
+        s,
+        access::write_registers(State::from(s), addresses, values),
+    )
 }
 
 #[unsafe(no_mangle)]
@@ -37,7 +40,7 @@ pub extern "C" fn ofersky_sp_turn(
     ensures bytes { memory rdram.new dmem.new imem.new
         ≡ sp_turn_memory (decoded s) (memory rdram.old dmem.old imem.old) }
 {
-    handed(s, engines::sp_turn(decoded(s), rdram, dmem, imem))
+    handed(s, engines::sp_turn(State::from(s), rdram, dmem, imem))
 }
 
 #[unsafe(no_mangle)]
@@ -51,7 +54,7 @@ pub extern "C" fn ofersky_sp_row(
     ensures bytes { memory rdram.new dmem.new imem.new
         ≡ sp_row_memory (decoded s) (memory rdram.old dmem.old imem.old) }
 {
-    handed(s, engines::sp_row(decoded(s), rdram, dmem, imem))
+    handed(s, engines::sp_row(State::from(s), rdram, dmem, imem))
 }
 
 #[unsafe(no_mangle)]
@@ -59,10 +62,11 @@ pub extern "C" fn ofersky_dp_turn(s: HostState, rdram: &[u8], dmem: &[u8]) -> Ho
     ensures outcome { result ≡ handed s (dp_turn (decoded s) rdram.now dmem.now) }
     ensures kept { (rdram.exit.now ≡ rdram.entry.now) × (dmem.exit.now ≡ dmem.entry.now) }
 {
-    handed(s, engines::dp_turn(decoded(s), rdram, dmem))
+    handed(s, engines::dp_turn(State::from(s), rdram, dmem))
 }
 
 #[unsafe(no_mangle)]
+#[tactic(auto, unfolding(host::specs::States::ran_handed))]
 pub extern "C" fn ofersky_run(
     s: HostState,
     spbudget: u32,
@@ -81,7 +85,7 @@ pub extern "C" fn ofersky_run(
         ≡ (end_of_run (decoded s) spbudget dpbudget consumerbudget (memory rdram.old dmem.old imem.old) out.old).out }
 {
     let ran = runs::run(
-        decoded(s),
+        State::from(s),
         spbudget,
         dpbudget,
         consumerbudget,
@@ -90,30 +94,27 @@ pub extern "C" fn ofersky_run(
         imem,
         out,
     );
-    let done = ran.outcome;
     HostRan {
-        outcome: handed(s, done),
+        outcome: handed(s, ran.outcome),
         words: ran.words,
     }
 }
 
-// Where n bytes stand that a look shows: the word at CURRENT in the memory that XBUS selects, or that memory's start where there are none.
+// Where n bytes stand that a look shows: the word at CURRENT in the memory that XBUS selects, or that
+// memory's start where there are none.
 fn part_at(xbus: bool, current: u32, n: usize) -> HostPart
     ensures { result ≡ cond xbus (placed 1 (cond (eqb n 0) 0 (current % 0x1000)) (cond (eqb n 0) 0 8))
         (placed 0 (cond (eqb n 0) 0 current) (cond (eqb n 0) 0 8)) }
 {
-    let none = n == 0;
-    let length = pick(none, 0, 8);
-    if xbus {
-        return HostPart {
-            memory: 1,
-            offset: pick(none, 0, current % 0x1000),
-            length,
-        };
-    }
+    let (memory, word) = if xbus {
+        (1, current % 0x1000)
+    } else {
+        (0, current)
+    };
+    let (offset, length) = if n == 0 { (0, 0) } else { (word, 8) };
     HostPart {
-        memory: 0,
-        offset: pick(none, 0, current),
+        memory,
+        offset,
         length,
     }
 }
@@ -124,8 +125,7 @@ pub extern "C" fn ofersky_look_ahead<'a>(s: HostState, rdram: &'a [u8], dmem: &'
     ensures part { result ≡ part_handed (look (decoded s) rdram.now dmem.now) }
     ensures kept { (rdram.exit.now ≡ rdram.entry.now) × (dmem.exit.now ≡ dmem.entry.now) }
 {
-    let state = decoded(s);
+    let state = State::from(s);
     let n = engines::look_ahead(state, rdram, dmem).len();
-    let dp = state.dp;
-    part_at(dp.xbus, dp.current, n)
+    part_at(state.dp.xbus, state.dp.current, n)
 }

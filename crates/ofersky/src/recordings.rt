@@ -8,25 +8,30 @@ ghost use Rattle.host.specs.Records.{reading_handed};
 ghost use Rattle.host.specs.Promised.{HostReplayGives, host_verdict};
 ghost use Rattle.playback.specs.Verdict.{code_of};
 
-use crate::states::{decoded, handed};
+use crate::states::handed;
 use host::{HostReading, HostReplayed, HostState};
-use machine::Answer;
+use machine::{Answer, State};
 use playback::Verdict;
-use recording::Fields;
+use recording::{Fields, Record};
 use writer::fields_of;
 
 #[unsafe(no_mangle)]
+#[tactic(auto, unfolding(host::specs::Records::reading_handed))]
 pub extern "C" fn ofersky_read_record(recording: &[u8], place: usize) -> HostReading
     ensures reading { result ≡ reading_handed (read_record recording.now place) }
     ensures kept { recording.exit.now ≡ recording.entry.now }
 {
-    let done = reader::read_record(recording, place);
-    let found = done.item;
-    let item = fields_of(found);
-    HostReading {
-        item,
-        place: done.place,
-        number: done.number,
+    match reader::read_record(recording, place) {
+        Ok((item, place)) => HostReading {
+            item: fields_of(item),
+            place,
+            number: 0,
+        },
+        Err(why) => HostReading {
+            item: fields_of(Record::None),
+            place: 0,
+            number: why.into(),
+        },
     }
 }
 
@@ -49,15 +54,12 @@ pub extern "C" fn ofersky_replay(
     ensures { HostReplayGives s recording.now (memory rdram.old dmem.old imem.old) out.old result
         recording.exit.now (memory rdram.new dmem.new imem.new) out.new }
 {
-    let done = player::replay(decoded(s), recording, rdram, dmem, imem, out);
-    let left = done.outcome;
-    let outcome = handed(s, left);
-    let findings = done.findings;
+    let done = player::replay(State::from(s), recording, rdram, dmem, imem, out);
     HostReplayed {
-        outcome,
+        outcome: handed(s, done.outcome),
         written: done.written,
         place: done.place,
-        findings,
+        findings: done.findings,
     }
 }
 
@@ -66,8 +68,8 @@ fn verdict_code(v: Verdict) -> u32
     ensures { result ≡ code_of v }
 {
     match v {
-        Verdict::Refused(_, _, _) => 103,
-        Verdict::Differs(_, _) => 101,
+        Verdict::Refused(..) => 103,
+        Verdict::Differs(..) => 101,
         Verdict::NothingCompared => 102,
         Verdict::Passed(_) => 100,
     }
@@ -77,8 +79,5 @@ fn verdict_code(v: Verdict) -> u32
 pub extern "C" fn ofersky_verdict(r: HostReplayed) -> u32
     ensures { result ≡ host_verdict r }
 {
-    let outcome = r.outcome;
-    let answer = outcome.answer;
-    let f = r.findings;
-    verdict_code(player::judged(answer.number, f))
+    verdict_code(player::judged(r.outcome.answer.number, r.findings))
 }

@@ -14,9 +14,8 @@ use Rattle.machine.specs.Calls.{read_register}
 use Rattle.laws.specs.World.{World}
 use Rattle.recording.specs.declared.Record.{Record}
 use Rattle.recording.specs.declared.Record.TheVariants.{None, Write, Read, SpRun, DpRun, Tick, Break, Acknowledge, Store, Check, Run}
-use Rattle.recording.specs.declared.Reading.{Reading}
 use Rattle.recording.specs.Fields.{record_size}
-use Rattle.recording.specs.Reader.{found, longest, read_record}
+use Rattle.recording.specs.Reader.{Reading, found, longest, read_record}
 use Rattle.recording.specs.Split.{ReadOn}
 use Rattle.recording.specs.Split.ReadOn.{at_end, declines, reads}
 use Rattle.recording.proofs.Rewriting.{read_size}

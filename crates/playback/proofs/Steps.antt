@@ -12,8 +12,7 @@ use Rattle.machine.specs.Refusals.{ending, if_refused}
 use Rattle.machine.proofs.Refusals.{if_accepted, if_refused_lem}
 use Rattle.laws.specs.World.{World, world}
 use Rattle.recording.specs.declared.Record.{Record}
-use Rattle.recording.specs.declared.Reading.{Reading}
-use Rattle.recording.specs.Reader.{longest, read_record}
+use Rattle.recording.specs.Reader.{Reading, longest, read_record}
 use Rattle.recording.specs.Split.{Split, stops, precedes, split}
 use Rattle.recording.specs.Fields.{record_size}
 use Rattle.recording.proofs.Splitting.{split_at, split_none, split_next, split_stops}

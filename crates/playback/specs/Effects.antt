@@ -1,5 +1,5 @@
 -- What one record does, and the line that it writes.
-use Rattle.std.specs.Prelude.{ℕ, ◌%◌, true, false, cond, List, [], ◌++◌, ltb, replicate}
+use Rattle.std.specs.Prelude.{ℕ, ◌%◌, true, false, if◌then◌else◌, List, [], ◌++◌, nat_lt, replicate}
 use Rattle.words.specs.Memory.{Memory, Place, RDRAM, DMEM, IMEM, bytes_of, with_bytes, load_word, store_word, word_value, word_bytes}
 use Rattle.machine.specs.declared.Outcome.{Outcome}
 use Rattle.machine.specs.declared.Ran.{Ran}
@@ -12,10 +12,10 @@ use Rattle.listing.specs.Text.{Text, letter_s, letter_d, letter_r, letter_l, run
 
 -- The memory that kinds 8 and 9 name by an address, and where in it: RDRAM from 0, DMEM from 0x04000000, IMEM from 0x04001000
 abbrev pub place_at : ℕ → Place
-place_at a = cond (ltb a 0x04000000) RDRAM (cond (ltb a 0x04001000) DMEM IMEM)
+place_at a = if nat_lt a 0x04000000 then RDRAM else (if nat_lt a 0x04001000 then DMEM else IMEM)
 
 abbrev pub offset_at : ℕ → ℕ
-offset_at a = cond (ltb a 0x04000000) a (a % 0x1000)
+offset_at a = if nat_lt a 0x04000000 then a else a % 0x1000
 
 -- The word at an address; past the lent length it reads as zeros
 unfoldable pub load_at : ℕ → Memory → ℕ

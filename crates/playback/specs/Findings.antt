@@ -1,5 +1,5 @@
 -- What the reads and memory checks of a replay found. It is told by the records' own answers, found against expected, and not by the listing.
-use Rattle.std.specs.Prelude.{ℕ, ◌+◌, Bool, true, false, not, cond, List, [], ◌∷◌, eqb}
+use Rattle.std.specs.Prelude.{ℕ, ◌+◌, Bool, true, false, not, if◌then◌else◌, List, [], ◌∷◌, ◌==◌}
 use Rattle.words.specs.Bits.{as_bit}
 use Rattle.machine.specs.Calls.{read_register}
 use Rattle.laws.specs.World.{World}
@@ -27,14 +27,14 @@ compares (Run spbudget dpbudget) = false
 abbrev pub differs : Record → World → Bool
 differs None w = false
 differs (Write a v) w = false
-differs (Read a v) w = not (eqb (read_register w.state a).answer.value v)
+differs (Read a v) w = not ((read_register w.state a).answer.value == v)
 differs (SpRun budget) w = false
 differs (DpRun budget) w = false
 differs (Tick n) w = false
 differs Break w = false
 differs Acknowledge w = false
 differs (Store a word) w = false
-differs (Check a word) w = not (eqb (load_at a w.memory) word)
+differs (Check a word) w = not (load_at a w.memory == word)
 differs (Run spbudget dpbudget) w = false
 
 -- How many of the records a test holds for, each in the world that the records before it left
@@ -52,7 +52,8 @@ differed rs w = total differs rs w
 -- Where the first of them that differs begins, if the first of all begins at n and each takes as much as its size; 0 where none differs
 unfoldable pub first_from : (Record → ℕ) → ℕ → List Record → World → ℕ
 first_from size n [] w = 0
-first_from size n (r ∷ rs) w = cond (differs r w) n (first_from size (n + size r) rs (after r w))
+first_from size n (r ∷ rs) w =
+    if differs r w then n else first_from size (n + size r) rs (after r w)
 
 -- As an index each record takes one
 abbrev pub one : Record → ℕ

@@ -1,5 +1,6 @@
 -- What a replay promises, for every input, and what the steps of its code promise.
-use Rattle.std.specs.Prelude.{ℕ, ◌+◌, min, ◌≡◌, Bool, cond, ◌&&◌, List, ◌++◌, eqb, length, take, drop}
+use Rattle.std.specs.Prelude.{ℕ, ◌+◌, min, ◌≡◌, Bool, if◌then◌else◌, ◌&&◌, ◌==◌}
+use Rattle.std.specs.Prelude.{List, ◌++◌, length, take, drop}
 use Rattle.words.specs.Bits.{as_bit}
 use Rattle.words.specs.Memory.{Memory}
 use Rattle.machine.specs.declared.State.{State}
@@ -47,8 +48,8 @@ noted f compared differed index place =
     record {
       compared = f.compared + as_bit compared;
       differed = f.differed + as_bit differed;
-      index = cond (differed && eqb f.differed 0) index f.index;
-      place = cond (differed && eqb f.differed 0) place f.place;
+      index = if differed && (f.differed == 0) then index else f.index;
+      place = if differed && (f.differed == 0) then place else f.place;
     }
 
 -- The records of a recording were performed, and the last line was written

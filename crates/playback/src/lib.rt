@@ -7,7 +7,7 @@ use machine::Outcome;
 // differed from it, and of the first that differed the index among all records, counted from 0, and the byte of the recording where it begins.
 // Index and place are 0 where none differed.
 #[repr(C)]
-#[derive(Clone, Copy)]
+#[derive(Clone, Copy, Default)]
 pub struct Findings {
     pub compared: u32,
     pub differed: u32,

@@ -1,2 +1,3 @@
 pub mod Performing
 pub mod Noting
+pub mod FromStart

@@ -1,19 +1,22 @@
 // The records of a recording, one after the other.
-ghost use Rattle.std.specs.Prelude.{◌≡◌, ◌≤◌, ◌<◌, length};
+ghost use Rattle.std.specs.Prelude.{◌≡◌, ◌≤◌, ◌<◌, is_some, length};
 ghost use Rattle.words.specs.Memory.{memory};
-ghost use Rattle.machine.specs.Refusals.{ending};
+ghost use Rattle.words.specs.Lent.{lent, SameLent};
+ghost use Rattle.machine.specs.Refusals.{ending, number_given};
 ghost use Rattle.laws.specs.World.{world};
 ghost use Rattle.recording.specs.Split.{split};
 ghost use Rattle.playback.specs.Findings.{no_findings};
 ghost use Rattle.playback.specs.Replay.{replay_refusal};
 ghost use Rattle.playback.specs.Promised.{noted, PlayGives, ReplayGives};
+ghost use Rattle.player.specs.Expected.{is_unexpected};
 
 use crate::effects::perform;
-use checks::{check, ending, sp_refusal};
-use lines::{put_end, put_header, put_stop};
-use machine::State;
+use checks::{ending, sp_refusal};
+use lines::Lines;
+use machine::{Refusal, State};
 use playback::{Findings, Replayed};
 use reader::read_record;
+use words::memory::Lent;
 
 fn replayed(
     state: State,
@@ -33,79 +36,81 @@ fn replayed(
     }
 }
 
-// Nothing was compared.
-fn no_findings() -> Findings
-    ensures { result ≡ no_findings }
-{
-    Findings {
-        compared: 0,
-        differed: 0,
-        index: 0,
-        place: 0,
-    }
-}
-
 // What was found so far, and one record more, which has this index and begins at this place.
-fn noted(f: Findings, compared: bool, differed: bool, index: u32, place: usize) -> Findings
+#[tactic(auto, unfolding(playback::specs::Promised::noted))]
+fn noted(f: Findings, as_expected: Option<bool>, index: u32, place: usize) -> Findings
     requires { (f.compared < 0xFFFFFFFF) × (f.differed < 0xFFFFFFFF) }
-    ensures { result ≡ noted f compared differed index place }
+    ensures { result ≡ noted f (is_some as_expected) (is_unexpected as_expected) index place }
 {
-    let mut next = f;
-    next.compared = f.compared + compared as u32;
-    next.differed = f.differed + differed as u32;
-    if differed & (f.differed == 0) {
-        next.index = index;
-        next.place = place;
+    match as_expected {
+        None => f,
+        Some(true) => Findings {
+            compared: f.compared + 1,
+            ..f
+        },
+        Some(false) if f.differed == 0 => Findings {
+            compared: f.compared + 1,
+            differed: 1,
+            index,
+            place,
+        },
+        Some(false) => Findings {
+            compared: f.compared + 1,
+            differed: f.differed + 1,
+            ..f
+        },
     }
-    next
 }
 
 // Performs records until none is left or one is declined, and writes the last line.
-fn play(
-    s: State,
-    recording: &[u8],
-    rdram: &mut [u8],
-    dmem: &mut [u8],
-    imem: &mut [u8],
-    out: &mut [u8],
-    from: usize,
-) -> Replayed
-    requires { (length recording.now ≤ 16383) × (from ≤ length out.old) }
-    ensures { PlayGives (split recording.now)
-        (world s (memory rdram.old dmem.old imem.old)) out.old from result
-        (memory rdram.new dmem.new imem.new) out.new }
+fn play(s: State, recording: &[u8], m: &mut Lent<'_>, lines: &mut Lines) -> Replayed
+    requires { length recording.now ≤ 16383 }
+    ensures same { SameLent m.old m.new }
+    ensures same_buffer { lines.new.out.ghost_name ≡ lines.old.out.ghost_name }
+    ensures played { PlayGives (split recording.now)
+        (world s (lent m.old)) lines.old.out.now lines.old.at result
+        (lent m.new) lines.new.out.now }
 {
     let mut state = s;
-    let mut place = from;
     let mut at: usize = 0;
     let mut count: u32 = 0;
-    let mut findings = no_findings();
+    let mut findings = Findings::default();
     while at < recording.len() {
-        let next = read_record(recording, at);
-        let number = next.number;
-        if number == 0 {
-            let item = next.item;
-            let done = perform(item, state, rdram, dmem, imem, out, place);
-            findings = noted(findings, done.compared, done.differed, count, at);
-            state = done.state;
-            place = done.place;
-            at = next.place;
-            count += 1;
-        } else {
-            let written = put_stop(out, place, count, number, at);
-            return replayed(state, number, count, written, at, findings);
+        match read_record(recording, at) {
+            Ok((item, next)) => {
+                let done = perform(item, state, m, lines);
+                findings = noted(findings, done.as_expected, count, at);
+                state = done.state;
+                at = next;
+                count += 1;
+            }
+            Err(why) => {
+                let number = why.into();
+                lines.put_stop(count, number, at);
+                return replayed(state, number, count, lines.at(), at, findings);
+            }
         }
     }
-    let written = put_end(out, place, count);
-    replayed(state, 0, count, written, 0, findings)
+    lines.put_end(count);
+    replayed(state, 0, count, lines.at(), 0, findings)
 }
 
-// The number of a replay that does not begin, or 0.
-fn replay_refusal(s: State, recording: &[u8], rdram: &[u8], dmem: &[u8], imem: &[u8]) -> u32
-    ensures { result ≡ replay_refusal recording.now (world s (memory rdram.now dmem.now imem.now)) }
+// Whether a replay begins, and why not.
+#[tactic(auto, unfolding(playback::specs::Replay::replay_refusal))]
+fn replay_refusal(
+    s: State,
+    recording: &[u8],
+    rdram: &[u8],
+    dmem: &[u8],
+    imem: &[u8],
+) -> Result<(), Refusal>
+    ensures { number_given result
+        ≡ replay_refusal recording.now (world s (memory rdram.now dmem.now imem.now)) }
 {
-    let short = recording.len() <= 16383;
-    check(short, 9, sp_refusal(s, rdram, dmem, imem))
+    if 16383 < recording.len() {
+        return Err(Refusal::TooLong);
+    }
+    sp_refusal(s, rdram, dmem, imem)
 }
 
 // Replays a recording, and writes its listing to `out`; 69,204 bytes of room always suffice. It stops at the first record that is declined, with the
@@ -122,11 +127,13 @@ pub fn replay(
     ensures { ReplayGives s recording.now (memory rdram.old dmem.old imem.old) out.old result
         recording.exit.now (memory rdram.new dmem.new imem.new) out.new }
 {
-    let place = put_header(out, 0);
-    let number = replay_refusal(s, recording, rdram, dmem, imem);
-    if number == 0 {
-        return play(s, recording, rdram, dmem, imem, out, place);
+    let mut lines = Lines::new(out, 0);
+    lines.put_header();
+    if let Err(why) = replay_refusal(s, recording, rdram, dmem, imem) {
+        let number = why.into();
+        lines.put_stop(0, number, 0);
+        return replayed(s, number, 0, lines.at(), 0, Findings::default());
     }
-    let written = put_stop(out, place, 0, number, 0);
-    replayed(s, number, 0, written, 0, no_findings())
+    let mut m = Lent { rdram, dmem, imem };
+    play(s, recording, &mut m, &mut lines)
 }

@@ -5,43 +5,40 @@ ghost use Rattle.recording.specs.Kinds.{byte, joined, is_kind, size, decoded, re
 use recording::Record;
 
 // A byte, 0 past the end.
-pub(crate) fn byte(s: &[u8], i: usize) -> u8
+fn byte(s: &[u8], i: usize) -> u8
     ensures { result ≡ byte s.now i }
 {
-    if i < s.len() { s[i] } else { 0 }
+    s.get(i).copied().unwrap_or(0)
 }
 
 // Four bytes as a number, most significant first.
 fn joined(a: u8, b: u8, c: u8, d: u8) -> u32
     ensures { result ≡ joined a b c d }
 {
-    ((a as u32 * 256 + b as u32) * 256 + c as u32) * 256 + d as u32
+    u32::from_be_bytes([a, b, c, d])
 }
 
 pub fn is_kind(kind: u8) -> bool
     ensures { result ≡ is_kind kind }
 {
-    (1 <= kind) & (kind <= 10)
+    (1..=10).contains(&kind)
 }
 
-// How many bytes a record takes: its kind and its body. A table would be made anew for each record.
+// How many bytes a record takes: its kind and its body.
 pub fn size(kind: u8) -> usize
     ensures { result ≡ size kind }
 {
     match kind {
-        1 => 9,
-        2 => 9,
-        3 => 5,
-        4 => 5,
-        5 => 5,
-        8 => 13,
-        9 => 13,
-        10 => 9,
+        1 | 2 | 10 => 9,
+        3..=5 => 5,
+        8 | 9 => 13,
         _ => 1,
     }
 }
 
-// The record of a kind, where a is the first four bytes of its body, v the four after them, and w the eight after the first four.
+// The record of a kind, where a is the first four bytes of its body, v the four after them, and w
+// the eight after the first four.
+#[tactic(auto, unfolding(recording::specs::Kinds::decoded))]
 pub fn decoded(kind: u8, a: u32, v: u32, w: u64) -> Record
     ensures { result ≡ decoded kind a v w }
 {
@@ -61,6 +58,7 @@ pub fn decoded(kind: u8, a: u32, v: u32, w: u64) -> Record
 }
 
 // The record that bytes begin with.
+#[tactic(auto, unfolding(recording::specs::Kinds::record_of))]
 pub(crate) fn record_of(s: &[u8]) -> Record
     ensures { result ≡ record_of s.now }
 {

@@ -5,4 +5,4 @@ mod fields; // fields.rt: the bytes of a record, and the record that they make
 mod records; // records.rt: the checks of a record, and the reader
 
 pub use fields::{decoded, is_kind, size};
-pub use records::{address_number, read_record};
+pub use records::{check_address, read_record};

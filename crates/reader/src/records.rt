@@ -1,10 +1,20 @@
 // The checks of a record, in the order of the rules, and the reader.
 ghost use Rattle.std.specs.Prelude.{◌≡◌};
-ghost use Rattle.recording.specs.Reader.{memory_allowed, memory_number, address_number, record_number, refused, found, first, RecordGives};
+ghost use Rattle.machine.specs.Address.{register_at};
+ghost use Rattle.machine.specs.Refusals.{number_given, register_number};
+ghost use Rattle.recording.specs.Reader.{
+  memory_allowed,
+  memory_number,
+  address_number,
+  first,
+  reading_of,
+  RecordGives,
+};
 
-use crate::fields::{byte, is_kind, record_of, size};
-use checks::{check, register_at, register_number};
-use recording::{Reading, Record};
+use crate::fields::{is_kind, record_of, size};
+use checks::register_at;
+use machine::Refusal;
+use recording::Record;
 
 // An address that kinds 8 and 9 may name.
 fn memory_allowed(a: u32) -> bool
@@ -13,93 +23,71 @@ fn memory_allowed(a: u32) -> bool
     (a % 8 == 0) & ((a < 0x03F00000) | ((0x04000000 <= a) & (a < 0x04002000)))
 }
 
-fn memory_number(a: u32) -> u32
-    ensures { result ≡ memory_number a }
+fn check_memory(a: u32) -> Result<(), Refusal>
+    ensures { number_given result ≡ memory_number a }
 {
-    check(memory_allowed(a), 6, 0)
+    if memory_allowed(a) {
+        Ok(())
+    } else {
+        Err(Refusal::MemoryAddress)
+    }
 }
 
-// The number of the check of a record's address; 0 for a record that has none.
-pub fn address_number(item: Record) -> u32
-    ensures { result ≡ address_number item }
+fn check_register(a: u32) -> Result<(), Refusal>
+    ensures { number_given result ≡ register_number (register_at a) }
+{
+    register_at(a)?;
+    Ok(())
+}
+
+// Whether a record's address is one that its kind may name. A record that has none passes.
+pub fn check_address(item: Record) -> Result<(), Refusal>
+    ensures { number_given result ≡ address_number item }
 {
     match item {
-        Record::None => 0,
-        Record::Write(a, _) => register_number(register_at(a)),
-        Record::Read(a, _) => register_number(register_at(a)),
-        Record::SpRun(_) => 0,
-        Record::DpRun(_) => 0,
-        Record::Tick(_) => 0,
-        Record::Break => 0,
-        Record::Acknowledge => 0,
-        Record::Store(a, _) => memory_number(a),
-        Record::Check(a, _) => memory_number(a),
-        Record::Run(_, _) => 0,
-    }
-}
-
-// The number of the first check that fails for the record that bytes begin with.
-fn record_number(s: &[u8]) -> u32
-    ensures { result ≡ record_number s.now }
-{
-    let kind = byte(s, 0);
-    let begun = 0 < s.len();
-    let known = is_kind(kind);
-    let whole = size(kind) <= s.len();
-    check(
-        begun,
-        8,
-        check(known, 7, check(whole, 8, address_number(record_of(s)))),
-    )
-}
-
-fn refused(number: u32) -> Reading
-    ensures { result ≡ refused number }
-{
-    let item = Record::None;
-    Reading {
-        number,
-        item,
-        place: 0,
-    }
-}
-
-fn found(item: Record, place: usize) -> Reading
-    ensures { result ≡ found item place }
-{
-    Reading {
-        number: 0,
-        item,
-        place,
+        Record::Write(a, _) | Record::Read(a, _) => check_register(a),
+        Record::Store(a, _) | Record::Check(a, _) => check_memory(a),
+        Record::None
+        | Record::SpRun(_)
+        | Record::DpRun(_)
+        | Record::Tick(_)
+        | Record::Break
+        | Record::Acknowledge
+        | Record::Run(_, _) => Ok(()),
     }
 }
 
 // The record that bytes begin with, and the place after it.
-fn first(s: &[u8]) -> Reading
-    ensures { result ≡ first s.now }
+#[tactic(auto, unfolding(recording::specs::Reader::first, recording::specs::Reader::record_number))]
+fn first(s: &[u8]) -> Result<(Record, usize), Refusal>
+    ensures { reading_of result ≡ first s.now }
 {
-    let number = record_number(s);
-    if number == 0 {
-        return found(record_of(s), size(byte(s, 0)));
+    let Some(&kind) = s.first() else {
+        return Err(Refusal::CutShort);
+    };
+    if !is_kind(kind) {
+        return Err(Refusal::UnknownKind);
     }
-    refused(number)
+    let size = size(kind);
+    if s.len() < size {
+        return Err(Refusal::CutShort);
+    }
+    let item = record_of(s);
+    check_address(item)?;
+    Ok((item, size))
 }
 
-// The record at a place of a recording, and the place after it. Refusals, by the first that applies: 9, 7, 8, 10, 5, 6; at or past the end 8.
-pub fn read_record(recording: &[u8], place: usize) -> Reading
-    ensures { RecordGives recording.now place result recording.exit.now }
+// The record at a place of a recording, and the place after it. Refusals, by the first that
+// applies: 9, 7, 8, 10, 5, 6; at or past the end 8.
+pub fn read_record(recording: &[u8], place: usize) -> Result<(Record, usize), Refusal>
+    ensures { RecordGives recording.now place (reading_of result) recording.exit.now }
 {
-    let n = recording.len();
-    if 16383 < n {
-        return refused(9);
+    if 16383 < recording.len() {
+        return Err(Refusal::TooLong);
     }
-    if place < n {
-        let next = first(&recording[place..n]);
-        let item = next.item;
-        if next.number == 0 {
-            return found(item, place + next.place);
-        }
-        return refused(next.number);
-    }
-    refused(8)
+    let Some(rest) = recording.get(place..) else {
+        return Err(Refusal::CutShort);
+    };
+    let (item, size) = first(rest)?;
+    Ok((item, place + size))
 }

@@ -11,9 +11,9 @@ use Rattle.machine.specs.Address.{register_at}
 use Rattle.machine.specs.Refusals.{check, if_refused}
 use Rattle.machine.proofs.Refusals.{if_accepted, if_refused_lem}
 use Rattle.recording.specs.declared.Record.{Record}
-use Rattle.recording.specs.declared.Reading.{Reading}
 use Rattle.recording.specs.Kinds.{is_kind, body_size, size, decoded, kind_of, record_of}
-use Rattle.recording.specs.Reader.{address_number, record_number, refused, found, first, shifted, longest, read_record}
+use Rattle.recording.specs.Reader.{Reading, address_number, record_number, refused, found}
+use Rattle.recording.specs.Reader.{first, shifted, longest, read_record}
 
 -- ---- The numbers of some bytes, by computation
 

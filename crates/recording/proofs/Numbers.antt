@@ -12,9 +12,9 @@ use Rattle.words.proofs.Tests.{contradiction}
 use Rattle.machine.specs.Address.{aligned, register_at}
 use Rattle.machine.specs.Refusals.{check, is_register, if_refused, ten_as_five}
 use Rattle.machine.proofs.Address.{register_number_lem, register_aligned}
-use Rattle.recording.specs.declared.Reading.{Reading}
 use Rattle.recording.specs.Kinds.{four, eight, is_kind, accesses, stores_or_checks, size, kind_of, decoded, record_of}
-use Rattle.recording.specs.Reader.{memory_allowed, address_number, record_number, refused, found, first, shifted, longest, read_record}
+use Rattle.recording.specs.Reader.{Reading, memory_allowed, address_number, record_number}
+use Rattle.recording.specs.Reader.{refused, found, first, shifted, longest, read_record}
 use Rattle.recording.specs.Split.{RecordGiven, LengthGiven}
 use Rattle.recording.proofs.Accepted.{first_number_lem}
 

@@ -12,10 +12,9 @@ use Rattle.words.proofs.Tests.{by}
 use Rattle.machine.specs.declared.Answer.{Answer}
 use Rattle.machine.specs.Refusals.{check}
 use Rattle.recording.specs.declared.Record.{Record}
-use Rattle.recording.specs.declared.Reading.{Reading}
 use Rattle.recording.specs.Kinds.{Bytes, four, eight, is_kind, size, decoded, kind_of, record_of}
 use Rattle.recording.specs.Fields.{fields_of, record_size, record_by, FieldsFit}
-use Rattle.recording.specs.Reader.{record_number, found, longest, read_record, RecordGives}
+use Rattle.recording.specs.Reader.{Reading, record_number, found, longest, read_record, RecordGives}
 use Rattle.recording.specs.Writer.{record_bytes, has_room, write_number, answered, replaced, WriteRecordGives}
 use Rattle.recording.specs.Written.{EveryReading}
 use Rattle.recording.proofs.Accepted.{accepted_kind, accepted_whole, accepted_address, read_long}

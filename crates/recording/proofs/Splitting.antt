@@ -16,10 +16,10 @@ use Rattle.machine.specs.Refusals.{if_refused}
 use Rattle.machine.proofs.Refusals.{if_accepted, if_refused_lem}
 use Rattle.recording.specs.declared.Record.{Record}
 use Rattle.recording.specs.declared.Record.TheVariants.{SpRun, Break}
-use Rattle.recording.specs.declared.Reading.{Reading}
 use Rattle.recording.specs.Kinds.{Bytes, byte, four, eight, body_size, size, kind_of, decoded, record_of}
 use Rattle.recording.specs.Fields.{Fits}
-use Rattle.recording.specs.Reader.{record_number, refused, found, first, longest, read_record}
+use Rattle.recording.specs.Reader.{Reading, record_number, refused, found, first, longest}
+use Rattle.recording.specs.Reader.{read_record}
 use Rattle.recording.specs.Split.{Split, stops, precedes, split_from, split, ReadOn, AllFit}
 use Rattle.recording.specs.Split.ReadOn.{at_end, declines, reads}
 use Rattle.recording.proofs.Accepted.{accepted_whole}

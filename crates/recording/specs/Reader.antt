@@ -1,10 +1,28 @@
 -- The reader: a record and the place after it, or the number of the first check that fails.
-use Rattle.std.specs.Prelude.{ℕ, ◌+◌, ◌%◌, ◌≡◌, Bool, cond, ◌&&◌, ◌||◌, List, ltb, leb, eqb, length, drop}
+use Rattle.std.specs.Prelude.{
+  ℕ,
+  ◌+◌,
+  ◌%◌,
+  ◌≡◌,
+  Bool,
+  cond,
+  ◌&&◌,
+  ◌||◌,
+  List,
+  Result,
+  Ok,
+  Err,
+  ltb,
+  leb,
+  eqb,
+  length,
+  drop,
+}
 use Rattle.machine.specs.Address.{register_at}
-use Rattle.machine.specs.Refusals.{check, register_number, if_refused}
+use Rattle.machine.specs.declared.refusal.Refusal.{Refusal}
+use Rattle.machine.specs.Refusals.{check, register_number, if_refused, number}
 use Rattle.recording.specs.declared.Record.{Record}
 use Rattle.recording.specs.declared.Record.TheVariants.{None, Write, Read, SpRun, DpRun, Tick, Break, Acknowledge, Store, Check, Run}
-use Rattle.recording.specs.declared.Reading.{Reading}
 use Rattle.recording.specs.Kinds.{is_kind, size, kind_of, record_of}
 
 -- An address that kinds 8 and 9 may name: a multiple of 8 in 0 to 0x03EFFFFF, or in 0x04000000 to 0x04001FFF. It is not cut to 24 bits
@@ -37,12 +55,24 @@ record_number s =
     (check (leb (size (kind_of s)) (length s)) 8
     (address_number (record_of s))))
 
+-- What a reading says, as numbers: 0, the record and the place after it; or the number of the
+-- first check that failed
+pub record Reading : Type 0 where
+  pub number : ℕ
+  pub item : Record
+  pub place : ℕ
+
 -- A declined reading gives no record and place 0
 abbrev pub refused : ℕ → Reading
 refused number = record { number = number; item = None; place = 0 }
 
 abbrev pub found : Record → ℕ → Reading
 found item place = record { number = 0; item = item; place = place }
+
+-- What the code of the reader gives, a record and the place after it or a refusal, says this
+abbrev pub reading_of : Result (Record × ℕ) Refusal → Reading
+reading_of (Ok r) = found r.0 r.1
+reading_of (Err why) = refused (number why)
 
 -- What bytes begin with
 unfoldable pub first : List ℕ → Reading

@@ -6,10 +6,9 @@ use Rattle.machine.specs.Address.{aligned, register_at}
 use Rattle.machine.specs.Refusals.{check, is_register, ten_as_five}
 use Rattle.recording.specs.declared.Record.{Record}
 use Rattle.recording.specs.declared.Fields.{Fields}
-use Rattle.recording.specs.declared.Reading.{Reading}
 use Rattle.recording.specs.Kinds.{Bytes, is_kind, accesses, stores_or_checks, size}
 use Rattle.recording.specs.Fields.{fields_of, record_by, SameFields, FieldsFit}
-use Rattle.recording.specs.Reader.{memory_allowed, found, read_record, RecordGives}
+use Rattle.recording.specs.Reader.{Reading, memory_allowed, found, read_record, RecordGives}
 use Rattle.recording.specs.Writer.{record_bytes, has_room, write_number, answered, WriteRecordGives}
 use Rattle.recording.specs.Split.{Split, split}
 

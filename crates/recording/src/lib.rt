@@ -3,7 +3,8 @@
 
 // One record. An address is the raw 32 bits that stand in the recording. `Run` is a merged run, with the SP's budget and then the DP's, which the
 // consumer has too.
-// `None` is no record: a declined reading gives it.
+// `None` is no record: bytes of an unknown kind make it, and hosts get its fields where a reading is
+// declined.
 #[derive(Clone, Copy)]
 pub enum Record {
     None,
@@ -28,12 +29,4 @@ pub struct Fields {
     pub value: u64,
     pub address: u32,
     pub kind: u8,
-}
-
-// What the reader answers: 0, the record and the place after it; or the number of the first check that failed, no record and place 0.
-#[derive(Clone, Copy)]
-pub struct Reading {
-    pub number: u32,
-    pub item: Record,
-    pub place: usize,
 }

@@ -2,14 +2,15 @@
 // written for each pair: the recording's name, `same` or `differs` and the line that sums the replay up, or `missing`.
 #![tactic(auto)]
 
+use console::Cut;
 use std::fs::File;
 use std::{env, fs, io};
 
 // Whether the recording in one file gives the listing in another; and the line that sums it up.
 fn compare_files(rt: &impl Print, recording: &mut File, expected: &mut File) -> io::Result<()> {
     let mut input = [0u8; 16384];
-    let got = console::read_input(recording, &mut input);
-    let length = got.length;
+    // Where a read fails, what came before it.
+    let (Ok(length) | Err(Cut { length })) = console::read_input(recording, &mut input);
     let mut rdram = [0u8; 32768];
     let mut dmem = [0u8; 4096];
     let mut imem = [0u8; 4096];
@@ -23,18 +24,15 @@ fn compare_files(rt: &impl Print, recording: &mut File, expected: &mut File) -> 
         &mut out,
         &mut line,
     );
-    let written = done.listing;
-    let summary = done.summary;
     // One byte more than any listing has.
     let mut listing = [0u8; 69205];
-    let wanted = console::read_input(expected, &mut listing);
-    let n = wanted.length;
-    if out[..written] == listing[..n] {
-        rt.write_all(b" same: ")?;
+    let (Ok(length) | Err(Cut { length })) = console::read_input(expected, &mut listing);
+    rt.write_all(if out[..done.listing] == listing[..length] {
+        b" same: "
     } else {
-        rt.write_all(b" differs: ")?;
-    }
-    rt.write_all(&line[..summary])
+        b" differs: "
+    })?;
+    rt.write_all(&line[..done.summary])
 }
 
 // The line of a pair of files.

@@ -5,12 +5,10 @@
 fn main(rt: HostRuntime) {
     // One byte more than a recording may have, so that a longer one is seen.
     let mut input = [0u8; 16384];
-    let got = console::read_input(&mut rt.stdin(), &mut input);
-    if got.failed {
+    let Ok(length) = console::read_input(&mut rt.stdin(), &mut input) else {
         let _ = rt.stderr().write_all(b"the recording could not be read\n");
         return;
-    }
-    let length = got.length;
+    };
     let mut rdram = [0u8; 32768];
     let mut dmem = [0u8; 4096];
     let mut imem = [0u8; 4096];
@@ -24,9 +22,7 @@ fn main(rt: HostRuntime) {
         &mut out,
         &mut line,
     );
-    let listing = done.listing;
-    let summary = done.summary;
-    if rt.stdout().write_all(&out[..listing]).is_ok() {
-        let _ = rt.stderr().write_all(&line[..summary]);
+    if rt.stdout().write_all(&out[..done.listing]).is_ok() {
+        let _ = rt.stderr().write_all(&line[..done.summary]);
     }
 }

@@ -1,5 +1,5 @@
 -- Words inside a row: the memory after n of them, and the registers and the memory after a whole piece.
-use Prim.Native.Nat.{ℕ, zero, suc, ◌+◌, ◌-◌, ◌*◌, ◌/◌, ◌%◌, ◌<◌, ◌≤◌, min}
+use Prim.Native.Nat.{ℕ, zero, suc, ◌+◌, ◌-◌, ◌*◌, ◌/◌, ◌%◌, ◌<◌, ◌≤◌}
 use mathlib.Core.Path.{◌≡◌, refl, sym, ap, ◌∙◌}
 use mathlib.Core.Bool.{Bool, true, false, cond}
 use mathlib.Core.List.{List}
@@ -8,16 +8,16 @@ use lib.Dec.{ltb}
 use borrow.Author.Tests.{lt-ltb, le-ltb, ltb-true, ltb-false}
 use Rattle.words.specs.Bits.{ram_add}
 use Rattle.words.specs.Memory.{Memory, memory}
+use Rattle.words.specs.Stepped.{ran}
 use Rattle.words.proofs.Tests.{by}
 use Rattle.sp.specs.declared.SpState.{SpState}
 use Rattle.sp.specs.Transfer.{bank_add, next_word}
 use Rattle.sp.specs.Turn.{sp_next, sp_move, sp_after, memory_after}
-use Rattle.sp.specs.Tried.{ran}
 use Rattle.sp.specs.Rows.{row_turns, advanced}
 use Rattle.sp.proofs.Turn.{after_suc, after_add, memory_add}
 use Rattle.sp.proofs.Rows.{next_inside, inside, advanced_busy, advanced_len, row_idle}
 use Rattle.rows.specs.Words.{words_moved}
-use Rattle.rows.specs.Pieces.{between, Below, Piece}
+use Rattle.rows.specs.Pieces.{between, Piece}
 
 -- ---- Memory
 
@@ -99,23 +99,6 @@ module _ (storing : Bool) (n ram offset : ℕ) (m : Memory) where
 
 -- ---- A piece
 
--- The least of four numbers of words
-pub piece_of : (s : SpState) (most b r : ℕ) {i j n : ℕ} → Below (s.spaddr % 0x1000) 0x1000 b → Below s.ramaddr 0x1000000 r
-    → i ≡ min most (s.len / 8 + 1) → j ≡ min b r → n ≡ min i j → Piece s most n
-piece_of s most b r hb hr ei ej en =
-    record {
-      some = λ some. omega arith;
-      asked = omega arith;
-      in_row = omega arith;
-      bank = omega (arith, hb.1 (omega arith));
-      top = λ more. by (ltb s.ramaddr 0x1000000) (λ e. omega (arith, hr.1 (ltb-true s.ramaddr 0x1000000 e)))
-          (λ e. omega (arith, hr.2 (ltb-false s.ramaddr 0x1000000 e)));
-    }
-
--- It has at most a bank's words
-pub piece_most : (s : SpState) (most n : ℕ) → Piece s most n → n ≤ 0x200
-piece_most s most n p = omega (arith, p.bank)
-
 -- Its registers: advanced to its last word, and one turn more
 pub piece_state : (n : ℕ) (s : SpState) {k : ℕ} {t t₁ : SpState} → s.busy ≡ true → 0 < n → n ≤ s.len / 8 + 1 → k ≡ n - 1
     → t ≡ advanced (8 * k) s → t₁ ≡ sp_next t → t₁ ≡ sp_after n s
@@ -125,11 +108,9 @@ piece_state (suc n) s {k} b h l i e f =
     f ∙ ap sp_next (e ∙ ap (λ (j : ℕ). advanced (8 * j) s) same ∙ sym (inside n s b (omega arith))) ∙ sym (after_suc n s)
 
 pub piece_bytes : (n most : ℕ) (s : SpState) (m : Memory) {m' : Memory} → Piece s most n → s.busy ≡ true
-    → m' ≡ between s.storing (ltb s.spaddr 0x1000) (min n 0x200) s.ramaddr (s.spaddr % 0x1000) m → m' ≡ memory_after n s m
+    → m' ≡ between s.storing (ltb s.spaddr 0x1000) n s.ramaddr (s.spaddr % 0x1000) m → m' ≡ memory_after n s m
 piece_bytes n most s m p b e =
-    let all : min n 0x200 ≡ n = omega (arith, piece_most s most n p) in
     e
-    ∙ ap (λ (k : ℕ). between s.storing (ltb s.spaddr 0x1000) k s.ramaddr (s.spaddr % 0x1000) m) all
     ∙ sym (moves n s m b (omega (arith, p.in_row), p.bank, p.top))
 
 -- ---- The row's loop: words - left turns were taken

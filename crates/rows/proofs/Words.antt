@@ -5,10 +5,10 @@ use mathlib.Core.List.{List, ◌++◌, append_assoc}
 use native.Mathlib.Omega.{arith}
 use native.Mathlib.Nat.{zero-add, suc-add}
 use lib.ListN.{length, take, drop, replicate, length-append, length-drop, length-replicate, replicate-append-replicate}
-use lib.Seq.{sets, sets-eq, length-sets, take-add, drop-drop, length-take-le}
+use lib.Seq.{sets, length-sets, take-add, drop-drop, length-take-le}
 use borrow.Author.Tests.{le-leb}
 use Rattle.words.specs.Memory.{load_word, store_word}
-use Rattle.words.proofs.Bytes.{sets_append, load_length, load_past, store_past, part_word}
+use Rattle.words.proofs.Bytes.{sets_append, load_length, load_past, store_past, part_word, part_set}
 use Rattle.rows.specs.Words.{fitted_words, words_from, words_moved}
 
 -- ---- Words read one after another
@@ -83,32 +83,6 @@ moved_add (suc i) j d at s from =
 
 -- ---- What the code makes
 
--- Of n words `room` have room in the target, whose length is d, and of these the source has `have`, whose length is s
-pub record Sizes (d at s from room have : ℕ) : Type 0 where
-  pub copied : have ≤ room
-  pub small : 8 * room ≤ 0x1000
-  pub target : at + 8 * room ≤ d
-  pub source : 0 < have → from + 8 * have ≤ s
-
-pub sizes : (d at s from n : ℕ) {most room have : ℕ} → most ≡ min n 0x200 → room ≡ fitted_words most d at → have ≡ fitted_words room s from → 0 < room
-    → Sizes d at s from room have
-unfolding fitted_words
-sizes d at s from n {most} {room} {have} em er eh some = record {
-  copied = below room ((s - from) / 8) have eh;
-  small = eight n most ((d - at) / 8) room em er;
-  target = part d at most room er some;
-  source = part s from room have eh;
-}
-  where
-    below : (a b k : ℕ) → k ≡ min a b → k ≤ a
-    below a b k e = omega arith
-
-    eight : (n m b k : ℕ) → m ≡ min n 0x200 → k ≡ min m b → 8 * k ≤ 0x1000
-    eight n m b k e f = omega arith
-
-    part : (n at most k : ℕ) → k ≡ min most ((n - at) / 8) → 0 < k → at + 8 * k ≤ n
-    part n at most k e h = omega arith
-
 -- Where the first of some has no room nothing changes
 moved_rest : (k : ℕ) (d : List ℕ) (at : ℕ) (s : List ℕ) (from : ℕ) → (0 < k → length d < at + 8) → words_moved k d at s from ≡ d
 unfolding words_moved
@@ -129,7 +103,7 @@ moved_room n d at s from r e h =
     ∙ ap (λ (l : List ℕ). words_moved (n - r) l (at + 8 * r) s (from + 8 * r)) (moved_fitted r d at s from fits)
     ∙ moved_rest (n - r) l (at + 8 * r) s (from + 8 * r) (λ some. omega arith)
 
-pub moved_none : (n : ℕ) (d : List ℕ) (at : ℕ) (s : List ℕ) (from : ℕ) → 0 ≡ fitted_words n (length d) at → words_moved n d at s from ≡ d
+moved_none : (n : ℕ) (d : List ℕ) (at : ℕ) (s : List ℕ) (from : ℕ) → 0 ≡ fitted_words n (length d) at → words_moved n d at s from ≡ d
 unfolding fitted_words
 moved_none n d at s from e = moved_rest n d at s from (λ some. omega arith)
 
@@ -148,38 +122,8 @@ from_have r s from h e some =
     zeros zero a f = refl
     zeros (suc k) a f = from_past (suc k) s a (f (omega arith))
 
--- A part that was lent and came back as ys, whose length it keeps
-part_set : (d ys : List ℕ) (a e : ℕ) → a ≤ e → e ≤ length d → length ys ≡ e - a
-    → take a d ++ (ys ++ drop (e - a) (drop a d)) ≡ sets d a ys
-part_set d ys a e h k size =
-    let end : a + (e - a) ≡ a + length ys = omega arith in
-    rw drop-drop
-    (ap (λ (n : ℕ). take a d ++ (ys ++ drop n d)) end ∙ sym (append_assoc (take a d) ys _)
-    ∙ sym (sets-eq ys d a (omega arith)))
-
--- The copier's part comes back as the source's
-pub copied : (d s ys : List ℕ) (at from n : ℕ) → at + n ≤ length d → from + n ≤ length s → n ≤ 0x1000
-    → (length (take (at + n - at) (drop at d)) ≡ length (take (from + n - from) (drop from s)) → length (take (at + n - at) (drop at d)) ≤ 0x1000
-    → ys ≡ take (from + n - from) (drop from s))
-    → take at d ++ (ys ++ drop (at + n - at) (drop at d)) ≡ sets d at (take n (drop from s))
-copied d s ys at from n h k small f =
-    let p : at + n - at ≡ n = omega arith in
-    let q : from + n - from ≡ n = omega arith in
-    let size : length (take n (drop from s)) ≡ n = length-take-le n (drop from s) (omega (arith, length-drop from s)) in
-    let same : length (take n (drop at d)) ≡ n = length-take-le n (drop at d) (omega (arith, length-drop at d)) in
-    let whole : ys ≡ take n (drop from s) = f (rw (p, q) (same ∙ sym size)) (rw (p, same) small) ∙ ap (λ (i : ℕ). take i (drop from s)) q in
-    rw whole (part_set d (take n (drop from s)) at (at + n) (omega arith) h (size ∙ sym p))
-
-pub cleared : (d ys : List ℕ) (at n : ℕ) → at + n ≤ length d → ys ≡ replicate (length (take (at + n - at) (drop at d))) 0
-    → take at d ++ (ys ++ drop (at + n - at) (drop at d)) ≡ sets d at (replicate n 0)
-cleared d ys at n h e =
-    let p : at + n - at ≡ n = omega arith in
-    let same : length (take (at + n - at) (drop at d)) ≡ n = rw p (length-take-le n (drop at d) (omega (arith, length-drop at d))) in
-    let whole : ys ≡ replicate n 0 = e ∙ ap (λ (i : ℕ). replicate i 0) same in
-    rw whole (part_set d (replicate n 0) at (at + n) (omega arith) h (length-replicate n 0 ∙ sym p))
-
 -- Nothing of the words is in the source
-pub moved_zeros : (n : ℕ) (d : List ℕ) (at : ℕ) (s : List ℕ) (from r h : ℕ) → r ≡ fitted_words n (length d) at → h ≡ fitted_words r (length s) from → 0 < r
+moved_zeros : (n : ℕ) (d : List ℕ) (at : ℕ) (s : List ℕ) (from r h : ℕ) → r ≡ fitted_words n (length d) at → h ≡ fitted_words r (length s) from → 0 < r
     → h ≡ 0
     → sets d at (replicate (8 * r) 0) ≡ words_moved n d at s from
 unfolding fitted_words
@@ -187,7 +131,7 @@ moved_zeros n d at s from r h er eh hr none =
     ap (sets d at) (sym (from_past r s from (omega arith))) ∙ sym (moved_room n d at s from r er hr)
 
 -- Some is
-pub moved_some : (n : ℕ) (d : List ℕ) (at : ℕ) (s : List ℕ) (from r h : ℕ) → r ≡ fitted_words n (length d) at → h ≡ fitted_words r (length s) from → 0 < r
+moved_some : (n : ℕ) (d : List ℕ) (at : ℕ) (s : List ℕ) (from r h : ℕ) → r ≡ fitted_words n (length d) at → h ≡ fitted_words r (length s) from → 0 < r
     → 0 < h
     → sets (sets d at (take (8 * h) (drop from s))) (at + 8 * h) (replicate (8 * (r - h)) 0) ≡ words_moved n d at s from
 unfolding fitted_words
@@ -197,3 +141,64 @@ moved_some n d at s from r h er eh hr some =
     ∙ sym (sets_append d at (take (8 * h) (drop from s)) (replicate (8 * (r - h)) 0))
     ∙ ap (sets d at) (sym (from_have r s from h eh some))
     ∙ sym (moved_room n d at s from r er hr)
+
+-- Both, where a and f are the two addresses cut to the lengths
+moved : (n : ℕ) (d : List ℕ) (at : ℕ) (s : List ℕ) (from a f r h : ℕ)
+    → a ≡ min at (length d) → f ≡ min from (length s) → r ≡ min n ((length d - a) / 8)
+    → h ≡ min r ((length s - f) / 8)
+    → sets (sets d a (take (8 * h) (drop f s))) (a + 8 * h) (replicate (8 * (r - h)) 0)
+    ≡ words_moved n d at s from
+unfolding fitted_words
+moved n d at s from a f zero h ea ef er eh =
+    let none : h ≡ 0 = omega arith in
+    rw none (sym (moved_none n d at s from (omega arith)))
+moved n d at s from a f (suc r) zero ea ef er eh =
+    let same : a ≡ at = omega arith in
+    let first : at + 8 * 0 ≡ at = omega arith in
+    let all : suc r - 0 ≡ suc r = omega arith in
+    rw (same, first, all)
+    (moved_zeros n d at s from (suc r) 0 (omega arith) (omega arith) (omega arith) refl)
+moved n d at s from a f (suc r) (suc h) ea ef er eh =
+    let same : a ≡ at = omega arith in
+    let from_same : f ≡ from = omega arith in
+    rw (same, from_same)
+    (moved_some n d at s from (suc r) (suc h) (omega arith) (omega arith) (omega arith) (omega arith))
+
+-- As the code makes it: a part is lent and comes back as the words that the source has, and then
+-- the part behind it is lent and comes back as zeros
+pub moved_parts : (n : ℕ) (d : List ℕ) (at : ℕ) (s : List ℕ) (from : ℕ) {a f r h : ℕ}
+    {ws t zs : List ℕ}
+    → a ≡ min at (length d) → f ≡ min from (length s) → r ≡ min n ((length d - a) / 8)
+    → h ≡ min r ((length s - f) / 8)
+    → ws ≡ take (f + 8 * h - f) (drop f s)
+    → t ≡ take a d ++ (ws ++ drop (a + 8 * h - a) (drop a d))
+    → zs ≡ replicate (length (take (a + 8 * r - (a + 8 * h)) (drop (a + 8 * h) t))) 0
+    → take (a + 8 * h) t ++ (zs ++ drop (a + 8 * r - (a + 8 * h)) (drop (a + 8 * h) t))
+    ≡ words_moved n d at s from
+moved_parts n d at s from {a} {f} {r} {h} {ws} {t} {zs} ea ef er eh ew et ez =
+    let room : a + 8 * r ≤ length d = omega arith in
+    let source : f + 8 * h ≤ length s = omega arith in
+    let less : h ≤ r = omega arith in
+    let p : f + 8 * h - f ≡ 8 * h = omega arith in
+    let q : a + 8 * r - (a + 8 * h) ≡ 8 * (r - h) = omega arith in
+    let got : List ℕ = take (8 * h) (drop f s) in
+    let words : ws ≡ got = ew ∙ ap (λ (k : ℕ). take k (drop f s)) p in
+    let size : length ws ≡ 8 * h =
+    ap length words ∙ length-take-le (8 * h) (drop f s) (omega (arith, length-drop f s))
+    in
+    let first : t ≡ sets d a ws =
+    et ∙ part_set d ws a (a + 8 * h) (omega arith) (omega arith) (omega arith)
+    in
+    let kept : length t ≡ length d = ap length first ∙ length-sets d a ws in
+    let behind : List ℕ = drop (a + 8 * h) t in
+    let rest : length (take (8 * (r - h)) behind) ≡ 8 * (r - h) =
+    length-take-le (8 * (r - h)) behind (omega (arith, length-drop (a + 8 * h) t))
+    in
+    let zeros : zs ≡ replicate (8 * (r - h)) 0 = ez ∙ rw (q, rest) in
+    let size_zeros : length zs ≡ a + 8 * r - (a + 8 * h) =
+    ap length zeros ∙ length-replicate (8 * (r - h)) 0 ∙ sym q
+    in
+    part_set t zs (a + 8 * h) (a + 8 * r) (omega arith) (omega arith) size_zeros
+    ∙ ap (λ (l : List ℕ). sets l (a + 8 * h) zs) (first ∙ ap (sets d a) words)
+    ∙ ap (sets (sets d a got) (a + 8 * h)) zeros
+    ∙ moved n d at s from a f r h ea ef er eh

@@ -1,9 +1,9 @@
 -- The SP's part of a run: words that it moves at once where only the SP acts, and how far the run goes by turns.
 use Rattle.std.proofs.Common.{◌≡◌, ℕ, zero, suc, ◌+◌, ◌-◌, ◌*◌, ◌/◌, ◌%◌, ◌<◌, ◌≤◌, Bool, true, false, cond, ◌||◌, ltb, sym, refl, ap, ◌∙◌, subst, mul-le-mul, arith, ltb-true, lt-ltb}
+use Rattle.words.specs.declared.stepped.Stepped.{Stepped}
 use Rattle.words.specs.Memory.{Memory}
 use Rattle.words.proofs.Tests.{by, and_true, contradiction}
 use Rattle.sp.specs.declared.SpState.{SpState}
-use Rattle.sp.specs.declared.turns.SpRan.{SpRan}
 use Rattle.sp.specs.Turn.{sp_next, sp_move, sp_after, memory_after}
 use Rattle.sp.specs.Tried.{may_move, SpTried}
 use Rattle.sp.proofs.Rows.{inside, advanced_busy}
@@ -72,7 +72,7 @@ pub has_turn : (s : SpState) (taken budget : ℕ) → may_move s taken budget �
 has_turn s taken budget on = let p = and_true (ltb taken budget) s.busy on in (ltb-true taken budget p.0, p.1)
 
 module _ {s : SpState} {taken budget : ℕ} {m : Memory} where
-  pub ahead_some : {r : SpRan} {m' : Memory} → may_move s taken budget ≡ true → Pieced s (budget - taken) m r m'
+  pub ahead_some : {r : Stepped SpState} {m' : Memory} → may_move s taken budget ≡ true → Pieced s (budget - taken) m r m'
       → Ahead s taken budget m (record { state = r.state; count = taken + r.count }) m'
   ahead_some {r} on g =
       let t = has_turn s taken budget on in
@@ -120,18 +120,18 @@ either_off true other e f = contradiction refl f
 either_off false other e f = contradiction e refl
 
 -- A turn that acts below `stop` is one of the whole budget
-pub within : {s : SpState} {taken stop budget : ℕ} {m m' : Memory} {x : SpRan} → may_move s taken stop ≡ true → stop ≤ budget
+pub within : {s : SpState} {taken stop budget : ℕ} {m m' : Memory} {x : Stepped SpState} → may_move s taken stop ≡ true → stop ≤ budget
     → SpTried s taken stop m x m' → SpTried s taken budget m x m'
 within {s} {taken} {stop} {budget} on h f =
     let t = has_turn s taken stop on in
     let whole : may_move s taken budget ≡ true = rw (lt-ltb taken budget (omega (arith, t.0)), t.1) in
     record { registers = f.registers ∙ rw (on, whole); bytes = f.bytes ∙ rw (on, whole) }
 
-pub within_count : {s : SpState} {taken stop budget : ℕ} {m m' : Memory} {x : SpRan} → may_move s taken stop ≡ true → stop ≤ budget
+pub within_count : {s : SpState} {taken stop budget : ℕ} {m m' : Memory} {x : Stepped SpState} → may_move s taken stop ≡ true → stop ≤ budget
     → SpTried s taken stop m x m' → x.count ≤ budget
 within_count {s} {taken} {stop} {x = x} on h f =
     let t = has_turn s taken stop on in
-    let one : x.count ≡ taken + 1 = ap (λ (x : SpRan). x.count) f.registers ∙ rw on in
+    let one : x.count ≡ taken + 1 = ap (λ (x : Stepped SpState). x.count) f.registers ∙ rw on in
     omega (arith, t.0, one)
 
 -- Between two turns of the inner loop, which began at e: whoever finishes the run from here has finished it from there. `on` says whether a DP turn or a
@@ -210,7 +210,7 @@ all_again b {r = r} {next} {on' = on'} {stop} {stop'} g may on one p h cut =
 
 -- What the outer loop needs of the SP's words at once
 module _ (b : Budgets) {e r : Run} {on : Bool} {stop : ℕ} (g : Between b e r on stop) (stopped : may_move r.state.sp r.moved stop ≡ false)
-    {x : SpRan} {m : Memory} (h : Ahead r.state.sp r.moved b.sp r.memory x m) where
+    {x : Stepped SpState} {m : Memory} (h : Ahead r.state.sp r.moved b.sp r.memory x m) where
   abbrev next : Run
   next = standing x.state r.state.dp r.state.queue m r.out x.count r.fetched r.words
 

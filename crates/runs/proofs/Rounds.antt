@@ -1,11 +1,11 @@
 -- One round of a merged run by its turns, and the loops over rounds.
 use Rattle.std.proofs.Common.{◌≡◌, ℕ, ◌<◌, Bool, true, false, ◌||◌, ltb, List, sym, refl, ap, ◌∙◌}
+use Rattle.words.specs.declared.stepped.Stepped.{Stepped}
 use Rattle.words.specs.Memory.{Memory}
 use Rattle.words.proofs.Tests.{by, and_true}
 use Rattle.sp.specs.declared.SpState.{SpState}
-use Rattle.sp.specs.declared.turns.SpRan.{SpRan}
+use Rattle.dp.specs.declared.DpState.{DpState}
 use Rattle.sp.specs.Tried.{SpTried}
-use Rattle.dp.specs.declared.turns.DpRan.{DpRan}
 use Rattle.dp.specs.Turn.{fetches, consumes}
 use Rattle.dp.specs.Tried.{FetchTried, ConsumeTried}
 use Rattle.dp.specs.Queue.{oldest}
@@ -19,12 +19,12 @@ use Rattle.runs.specs.Standing.{both, standing, EndsAt}
 -- ---- A round, by what the code has after each of its turns
 
 module _ (b : Budgets) (r : Run) where
-  sp_tried : {x : SpRan} {m : Memory} → SpTried r.state.sp r.moved b.sp r.memory x m
+  sp_tried : {x : Stepped SpState} {m : Memory} → SpTried r.state.sp r.moved b.sp r.memory x m
       → standing x.state r.state.dp r.state.queue m r.out x.count r.fetched r.words ≡ tried b sp r
   sp_tried h =
       by (acts b sp r) (λ e. rw (h.registers, h.bytes, e, tried_on b sp r e)) (λ e. rw (h.registers, h.bytes, e, tried_off b sp r e))
 
-  fetch_tried : {y : DpRan} {queue : List ℕ}
+  fetch_tried : {y : Stepped DpState} {queue : List ℕ}
       → FetchTried r.state.dp r.fetched b.dp r.memory.rdram r.memory.dmem r.state.queue y queue
       → standing r.state.sp y.state queue r.memory r.out r.moved y.count r.words ≡ tried b dp r
   fetch_tried h =
@@ -36,7 +36,7 @@ module _ (b : Budgets) (r : Run) where
       rw (h.registers, h.slots, e, tried_on b dp r e, next_fetched d f, ring_fetched d m.rdram m.dmem r.state.queue f))
       (λ e. rw (h.registers, h.slots, e, tried_off b dp r e))
 
-  consume_tried : {z : DpRan} {out : List ℕ} → ConsumeTried r.state.dp r.words b.consumer r.state.queue r.out z out
+  consume_tried : {z : Stepped DpState} {out : List ℕ} → ConsumeTried r.state.dp r.words b.consumer r.state.queue r.out z out
       → standing r.state.sp z.state r.state.queue r.memory out r.moved r.fetched z.count ≡ tried b consumer r
   consume_tried h =
       let d = r.state.dp in
@@ -46,7 +46,7 @@ module _ (b : Budgets) (r : Run) where
       rw (h.registers, h.output, e, tried_on b consumer r e, next_consumed d (oldest d r.state.queue) f))
       (λ e. rw (h.registers, h.output, e, tried_off b consumer r e))
 
-drawn_of : (b : Budgets) (r : Run) {y z : DpRan} {queue out : List ℕ}
+drawn_of : (b : Budgets) (r : Run) {y z : Stepped DpState} {queue out : List ℕ}
     → FetchTried r.state.dp r.fetched b.dp r.memory.rdram r.memory.dmem r.state.queue y queue
     → ConsumeTried y.state r.words b.consumer queue r.out z out
     → standing r.state.sp z.state queue r.memory out r.moved y.count z.count ≡ tried b consumer (tried b dp r)
@@ -54,7 +54,7 @@ drawn_of b r {y} {z} {queue} g h =
     consume_tried b (standing r.state.sp y.state queue r.memory r.out r.moved y.count r.words) h
     ∙ ap (tried b consumer) (fetch_tried b r g)
 
-pub round_of : (b : Budgets) (r : Run) {x : SpRan} {y z : DpRan} {m : Memory} {queue out : List ℕ}
+pub round_of : (b : Budgets) (r : Run) {x : Stepped SpState} {y z : Stepped DpState} {m : Memory} {queue out : List ℕ}
     → SpTried r.state.sp r.moved b.sp r.memory x m
     → FetchTried r.state.dp r.fetched b.dp m.rdram m.dmem r.state.queue y queue
     → ConsumeTried y.state r.words b.consumer queue r.out z out
@@ -65,7 +65,7 @@ round_of b r {x} {m = m} f g h =
     ∙ ap (λ (q : Run). tried b consumer (tried b dp q)) (sp_tried b r f)
 
 -- Where the SP's turn is passed over, a round is the other two
-pub list_round_of : (b : Budgets) (r : Run) {y z : DpRan} {queue out : List ℕ} → acts b sp r ≡ false
+pub list_round_of : (b : Budgets) (r : Run) {y z : Stepped DpState} {queue out : List ℕ} → acts b sp r ≡ false
     → FetchTried r.state.dp r.fetched b.dp r.memory.rdram r.memory.dmem r.state.queue y queue
     → ConsumeTried y.state r.words b.consumer queue r.out z out
     → standing r.state.sp z.state queue r.memory out r.moved y.count z.count ≡ round b r
@@ -73,7 +73,7 @@ unfolding round
 list_round_of b r e g h = drawn_of b r g h ∙ ap (λ (q : Run). tried b consumer (tried b dp q)) (sym (tried_off b sp r e))
 
 -- Where these two are passed over, it is the SP's
-pub sp_round_of : (b : Budgets) (r : Run) {on : Bool} {x : SpRan} {m : Memory} → on ≡ (acts b dp r || acts b consumer r) → on ≡ false
+pub sp_round_of : (b : Budgets) (r : Run) {on : Bool} {x : Stepped SpState} {m : Memory} → on ≡ (acts b dp r || acts b consumer r) → on ≡ false
     → SpTried r.state.sp r.moved b.sp r.memory x m
     → standing x.state r.state.dp r.state.queue m r.out x.count r.fetched r.words ≡ round b r
 unfolding round
@@ -108,7 +108,7 @@ over b r off p e h =
     sym here
     ∙ ap (λ (q : Run). standing r.state.sp r.state.dp r.state.queue r.memory r.out r.moved q.fetched r.words) here
 
-pub done : {e end : Run} {s : SpState} {m : Memory} {moved fetched : ℕ} {r : DpRan} {queue out : List ℕ} {o : Outcome}
+pub done : {e end : Run} {s : SpState} {m : Memory} {moved fetched : ℕ} {r : Stepped DpState} {queue out : List ℕ} {o : Outcome}
     → e ≡ standing s r.state queue m out moved fetched r.count → e ≡ end → o ≡ accepted (both s r.state queue) 0 moved
     → EndsAt end (record { outcome = o; words = r.count }) m out
 done h p outcome = rw (sym p ∙ h, outcome) (record { given = refl; bytes = refl; output = refl })

@@ -1,12 +1,11 @@
 -- Where a merged run stands, by what its loops have in hand, and what it gives where no check declines it.
 use Rattle.std.specs.Prelude.{◌≡◌, ℕ, ◌+◌, ◌<◌, ◌≤◌, true, false, List}
+use Rattle.words.specs.declared.stepped.Stepped.{Stepped}
 use Rattle.words.specs.Memory.{Memory, memory}
 use Rattle.sp.specs.declared.SpState.{SpState}
-use Rattle.sp.specs.declared.turns.SpRan.{SpRan}
 use Rattle.sp.specs.Turn.{sp_after, memory_after}
 use Rattle.sp.specs.Tried.{may_move}
 use Rattle.dp.specs.declared.DpState.{DpState}
-use Rattle.dp.specs.declared.turns.DpRan.{DpRan}
 use Rattle.machine.specs.declared.State.{State}
 use Rattle.machine.specs.declared.Ran.{Ran}
 use Rattle.runs.specs.declared.merged.Stood.{Stood}
@@ -29,7 +28,8 @@ end_from s d queue spbudget dpbudget room m out = merged (cut_to spbudget dpbudg
 
 -- What the SP moves at once where its turn acts, one word at least, over the memory m at entry and m' at exit: the registers and the bytes of as many
 -- turns, none of them idle. Nothing where its turn is passed over
-pub record Ahead (s : SpState) (moved budget : ℕ) (m : Memory) (r : SpRan) (m' : Memory) : Type 0 where
+pub record Ahead (s : SpState) (moved budget : ℕ) (m : Memory) (r : Stepped SpState)
+    (m' : Memory) : Type 0 where
   pub words : ℕ
   pub count : r.count ≡ moved + words
   pub some : may_move s moved budget ≡ true → (0 < words) × (moved + words ≤ budget)
@@ -45,7 +45,8 @@ pub record StandsAt (end : Run) (b : Budgets) (r : Stood) (queue' : List ℕ) (m
 
 -- What the rounds of the DP and the consumer alone give of a run: r, and the slots and the output at exit. It is the end of the run, whatever the SP
 -- and IMEM are, where the SP's turn is passed over
-abbrev pub Drawn : DpState → (fetched words dpbudget room : ℕ) → (rdram dmem queue out : List ℕ) → DpRan → (queue' out' : List ℕ) → Type 0
+abbrev pub Drawn : DpState → (fetched words dpbudget room : ℕ) → (rdram dmem queue out : List ℕ)
+    → Stepped DpState → (queue' out' : List ℕ) → Type 0
 Drawn d fetched words dpbudget room rdram dmem queue out r queue' out' =
     (s : SpState) (moved spbudget : ℕ) (imem : List ℕ)
     → acts (cut_to spbudget dpbudget room) sp (standing s d queue (memory rdram dmem imem) out moved fetched words) ≡ false

@@ -1,17 +1,19 @@
 // The merged run of both engines and the consumer.
 ghost use Rattle.std.specs.Prelude.{◌≡◌, ◌≤◌, true, ◌||◌};
 ghost use Rattle.words.specs.Memory.{memory};
+ghost use Rattle.words.specs.Lent.{lent, SameLent};
 ghost use Rattle.dp.specs.Tried.{may_fetch, may_consume};
 ghost use Rattle.machine.specs.Promised.{RunGives};
 ghost use Rattle.runs.specs.Standing.{cut_to, end_from, Ahead, Drawn, StandsAt, EndsAt};
 
 use checks::{accepted, declined, sp_refusal};
-use dp::{DpRan, DpState, length_table, room_for};
+use dp::{DpState, room_for};
 use machine::{Ran, State};
 use rows::piece;
-use sp::{SpRan, SpState};
-use std::num::wrapping_add_u32;
-use words::fields::{lesser, pick};
+use sp::SpState;
+use words::fields::pick;
+use words::memory::Lent;
+use words::stepped::Stepped;
 
 // A DP turn or a consumer turn acts.
 fn draws(dp: DpState, got: u32, dpbudget: u32, words: u32, room: u32) -> bool
@@ -32,20 +34,19 @@ fn list_rounds(
     dmem: &[u8],
     queue: &mut [u64; 32],
     out: &mut [u8],
-) -> DpRan
+) -> Stepped<DpState>
     ensures { Drawn dp got words dpbudget room rdram.now dmem.now queue.old out.old result
         queue.new out.new }
 {
-    let lengths = length_table();
     while draws(dp, got, dpbudget, words, room) {
         let two = dp.fetch(got, dpbudget, rdram, dmem, queue);
         dp = two.state;
         got = two.count;
-        let three = dp.consume(words, room, queue, out, &lengths);
+        let three = dp.consume(words, room, queue, out);
         dp = three.state;
         words = three.count;
     }
-    DpRan {
+    Stepped {
         state: dp,
         count: words,
     }
@@ -68,33 +69,24 @@ fn turns_until(sp: SpState, on: bool, moved: u32, spbudget: u32) -> u32
         return spbudget;
     }
     if sp.row < SHORT {
-        return lesser(
-            spbudget,
-            wrapping_add_u32(moved, short_words(sp.len, sp.count, sp.row)),
-        );
+        return spbudget.min(moved.wrapping_add(short_words(sp.len, sp.count, sp.row)));
     }
     0
 }
 
 // The next piece of the row, where an SP turn acts, and else nothing.
-fn ahead(
-    sp: SpState,
-    moved: u32,
-    spbudget: u32,
-    rdram: &mut [u8],
-    dmem: &mut [u8],
-    imem: &mut [u8],
-) -> SpRan
-    ensures { Ahead sp moved spbudget (memory rdram.old dmem.old imem.old) result
-        (memory rdram.new dmem.new imem.new) }
+fn ahead(sp: SpState, moved: u32, spbudget: u32, m: &mut Lent<'_>) -> Stepped<SpState>
+    ensures ahead { Ahead sp moved spbudget (lent m.old) result (lent m.new) }
+    ensures same { SameLent m.old m.new }
 {
     if (moved < spbudget) & sp.busy {
-        let done = piece(sp, spbudget - moved, rdram, dmem, imem);
-        let state = done.state;
-        let count = moved + done.count;
-        return SpRan { state, count };
+        let done = piece(sp, spbudget - moved, m.rdram, m.dmem, m.imem);
+        return Stepped {
+            state: done.state,
+            count: moved + done.count,
+        };
     }
-    SpRan {
+    Stepped {
         state: sp,
         count: moved,
     }
@@ -119,17 +111,14 @@ fn sp_rounds(
     spbudget: u32,
     dpbudget: u32,
     room: u32,
-    rdram: &mut [u8],
-    dmem: &mut [u8],
-    imem: &mut [u8],
+    m: &mut Lent<'_>,
     queue: &mut [u64; 32],
     out: &mut [u8],
 ) -> Stood
-    ensures { StandsAt (end_from sp dp queue.old spbudget dpbudget room (memory rdram.old dmem.old imem.old)
-        out.old) (cut_to spbudget dpbudget room) result queue.new (memory rdram.new dmem.new imem.new)
-        out.new }
+    ensures stands { StandsAt (end_from sp dp queue.old spbudget dpbudget room (lent m.old) out.old)
+        (cut_to spbudget dpbudget room) result queue.new (lent m.new) out.new }
+    ensures same { SameLent m.old m.new }
 {
-    let lengths = length_table();
     let mut moved: u32 = 0;
     let mut got: u32 = 0;
     let mut words: u32 = 0;
@@ -137,21 +126,24 @@ fn sp_rounds(
     while (moved < spbudget) & sp.busy {
         let mut stop = turns_until(sp, on, moved, spbudget);
         while (moved < stop) & sp.busy {
-            let one = sp.step(moved, stop, rdram, dmem, imem);
+            let one = sp.step(moved, stop, m);
             sp = one.state;
             moved = one.count;
             if on {
+                // Borrowed one by one: two fields of `m` cannot be lent at once as `&[u8]`.
+                let rdram = &mut *m.rdram;
+                let dmem = &mut *m.dmem;
                 let two = dp.fetch(got, dpbudget, rdram, dmem, queue);
                 dp = two.state;
                 got = two.count;
-                let three = dp.consume(words, room, queue, out, &lengths);
+                let three = dp.consume(words, room, queue, out);
                 dp = three.state;
                 words = three.count;
                 on = draws(dp, got, dpbudget, words, room);
                 stop = pick(on, stop, moved);
             }
         }
-        let alone = ahead(sp, moved, spbudget, rdram, dmem, imem);
+        let alone = ahead(sp, moved, spbudget, m);
         sp = alone.state;
         moved = alone.count;
     }
@@ -172,19 +164,18 @@ fn rounds(
     spbudget: u32,
     dpbudget: u32,
     room: u32,
-    rdram: &mut [u8],
-    dmem: &mut [u8],
-    imem: &mut [u8],
+    m: &mut Lent<'_>,
     out: &mut [u8],
 ) -> Ran
-    ensures { EndsAt (end_from sp dp queue spbudget dpbudget room (memory rdram.old dmem.old imem.old)
-        out.old) result (memory rdram.new dmem.new imem.new) out.new }
+    ensures ends { EndsAt (end_from sp dp queue spbudget dpbudget room (lent m.old) out.old) result
+        (lent m.new) out.new }
+    ensures same { SameLent m.old m.new }
 {
-    let at = sp_rounds(
-        sp, dp, spbudget, dpbudget, room, rdram, dmem, imem, &mut queue, out,
-    );
+    let at = sp_rounds(sp, dp, spbudget, dpbudget, room, m, &mut queue, out);
     let sp = at.sp;
     let standing = at.dp;
+    let rdram = &mut *m.rdram;
+    let dmem = &mut *m.dmem;
     let last = list_rounds(
         standing, at.got, at.words, dpbudget, room, rdram, dmem, &mut queue, out,
     );
@@ -212,14 +203,11 @@ pub fn run(
     ensures { RunGives s spbudget dpbudget consumerbudget (memory rdram.old dmem.old imem.old)
         out.old result (memory rdram.new dmem.new imem.new) out.new }
 {
-    let number = sp_refusal(s, rdram, dmem, imem);
-    if number == 0 {
-        let queue = s.queue;
-        let room = room_for(consumerbudget, out.len());
-        return rounds(
-            s.sp, s.dp, queue, spbudget, dpbudget, room, rdram, dmem, imem, out,
-        );
+    if let Err(why) = sp_refusal(s, rdram, dmem, imem) {
+        let outcome = declined(s, why.into());
+        return Ran { outcome, words: 0 };
     }
-    let outcome = declined(s, number);
-    Ran { outcome, words: 0 }
+    let room = room_for(consumerbudget, out.len());
+    let mut m = Lent { rdram, dmem, imem };
+    rounds(s.sp, s.dp, s.queue, spbudget, dpbudget, room, &mut m, out)
 }

@@ -1,16 +1,15 @@
 -- The steps that fill a part make the bytes of a record.
 use Prim.Native.Nat.{ℕ, ◌+◌, ◌-◌, ◌/◌, ◌%◌, ◌<◌, ◌≤◌}
 use mathlib.Core.Path.{◌≡◌, refl, sym, ap, ◌∙◌}
-use mathlib.Core.Bool.{Bool, true, false, ◌&&◌}
+use mathlib.Core.Bool.{true}
 use mathlib.Core.List.{List, [], ◌∷◌, ◌++◌, append-nil, append_assoc}
 use native.Mathlib.Omega.{arith}
 use native.Mathlib.Nat.{zero-add}
-use native.Mathlib.Numerals.{unary_clauses}
-use lib.Dec.{leb}
 use lib.ListN.{length, set, take, drop, length-drop}
 use lib.Seq.{sets, sets-eq, length-sets, length-take-le, drop-length, drop-drop}
 use borrow.Author.Tests.{le-leb, lt-leb}
-use Rattle.words.specs.Memory.{low_byte}
+use Rattle.std.specs.Int.{w32, to_be_bytes}
+use borrow.Rule.Slice.PartMut.{put_mid}
 use Rattle.words.proofs.Bytes.{sets_append}
 use Rattle.machine.specs.declared.Answer.{Answer}
 use Rattle.machine.proofs.Refusals.{if_accepted, if_refused_lem}
@@ -18,32 +17,31 @@ use Rattle.recording.specs.declared.Fields.{Fields}
 use Rattle.recording.specs.Kinds.{is_kind, size, decoded}
 use Rattle.recording.specs.Fields.{of_kind, low, first_field, record_by}
 use Rattle.recording.specs.Reader.{longest}
-use Rattle.recording.specs.Writer.{four_bytes, record_bytes, has_room, write_number, answered, write_answer, write_buffer, WriteRecordGives}
+use Rattle.recording.specs.Writer.{four_bytes, record_bytes, write_number, answered}
+use Rattle.recording.specs.Writer.{write_answer, write_buffer, WriteRecordGives}
 use Rattle.recording.proofs.Named.{each_kind}
 use Rattle.recording.proofs.Bytes.{word_halves}
 use Rattle.recording.proofs.Writing.{own_length, write_passed}
 use Rattle.writer.specs.Parts.{second_field, four_put}
-
--- ---- Room
-
-and_false : (b : Bool) → b && false ≡ false
-and_false true = refl
-and_false false = refl
-
--- Past the longest recording there is none
-pub no_room : (at kind n : ℕ) → longest < at → has_room at kind n ≡ false
-no_room at kind n h = rw (lt-leb (at + size kind) longest (omega arith)) (and_false (leb (at + size kind) n))
 
 -- ---- Four bytes
 
 pub four_none : (d : List ℕ) (at v : ℕ) → length d < at + 4 → four_put d at v ≡ d
 four_none d at v h = rw (lt-leb (at + 4) (length d) h)
 
--- The four steps of code that stores them
-pub four_stored : (d : List ℕ) (at v : ℕ) → at + 4 ≤ length d
-    → set (set (set (set d at (low_byte (v / 0x1000000))) (at + 1) (low_byte (v / 0x10000))) (at + 2) (low_byte (v / 0x100))) (at + 3) (low_byte v)
-    ≡ four_put d at v
-four_stored d at v h = rw (le-leb (at + 4) (length d) h) (simp unary_clauses)
+-- The library's four bytes of a number are these
+be_bytes : (v : ℕ) → to_be_bytes w32 v ≡ four_bytes v
+be_bytes v = refl
+
+-- Those that code copies there
+pub four_copied : (d : List ℕ) (at v : ℕ) {bytes : List ℕ}
+    → bytes ≡ to_be_bytes w32 v → at + 4 ≤ length d
+    → put_mid at (at + 4 - at) d bytes ≡ four_put d at v
+four_copied d at v e h =
+    let k : at + 4 - at ≡ 4 = omega arith in
+    let room = le-leb (at + 4) (length d) h in
+    rw (e ∙ be_bytes v, k, room, sets-eq (four_bytes v) d at h, drop-drop 4 at d)
+    (sym (append_assoc (take at d) (four_bytes v) (drop (at + 4) d)))
 
 -- ---- A part
 
@@ -123,28 +121,34 @@ filled f d e₁ ea e₂ ev e₃ el e₄ e h =
 -- ---- The writer
 
 -- Where no check failed, there is room
-pub room_for_lem : (f : Fields) (at : ℕ) (d : List ℕ) {n s : ℕ} → n ≡ write_number f at (length d) → n ≡ 0 → s ≡ size f.kind
-    → (at + s ≤ length d) × (at + s ≤ longest)
-room_for_lem f at d e z h =
-    let p = write_passed f at (length d) (sym e ∙ z) in
-    (omega (arith, p.in_buffer), omega (arith, p.in_recording))
+pub room_for_lem : (f : Fields) (at : ℕ) (d : List ℕ) {end : ℕ}
+    → write_number f at (length d) ≡ 0 → end ≡ at + size f.kind
+    → (at ≤ end) × (end ≤ length d) × (end ≤ longest)
+room_for_lem f at d z h =
+    let p = write_passed f at (length d) z in
+    (omega arith, omega (arith, p.in_buffer), omega (arith, p.in_recording))
 
 -- The part comes back in its place in the buffer
-pub written : (f : Fields) (at : ℕ) (d ys : List ℕ) (s : ℕ) (r : Answer) → write_number f at (length d) ≡ 0 → s ≡ size f.kind
-    → (is_kind f.kind ≡ true → length (take (at + s - at) (drop at d)) ≡ size f.kind → ys ≡ record_bytes (record_by f))
-    → r ≡ answered 0 (at + s)
-    → WriteRecordGives f at d r (take at d ++ (ys ++ drop (at + s - at) (drop at d)))
+pub written : (f : Fields) (at : ℕ) (d ys : List ℕ) (end : ℕ) (r : Answer)
+    → write_number f at (length d) ≡ 0
+    → end ≡ at + size f.kind
+    → (is_kind f.kind ≡ true → length (take (end - at) (drop at d)) ≡ size f.kind
+    → ys ≡ record_bytes (record_by f))
+    → r ≡ answered 0 end
+    → WriteRecordGives f at d r (put_mid at (end - at) d ys)
 unfolding write_answer write_buffer
-written f at d ys s r z e fill a =
+written f at d ys end r z e fill a =
     let p = write_passed f at (length d) z in
-    let k : at + s - at ≡ s = omega arith in
-    let part : length (take (at + s - at) (drop at d)) ≡ size f.kind
-    = rw k (length-take-le s (drop at d) (omega (arith, p.in_buffer, length-drop at d)) ∙ e) in
-    let n : s ≡ length (record_bytes (record_by f)) = e ∙ sym (own_length f p.known) in
+    let k : end - at ≡ size f.kind = omega arith in
+    let part : length (take (end - at) (drop at d)) ≡ size f.kind
+    = rw k
+    (length-take-le (size f.kind) (drop at d) (omega (arith, p.in_buffer, length-drop at d))) in
+    let n : size f.kind ≡ length (record_bytes (record_by f)) = sym (own_length f p.known) in
     record {
-      answer = a ∙ ap (λ (m : ℕ). answered 0 (at + m)) e ∙ sym (if_accepted (write_number f at (length d)) _ _ z);
+      answer = a ∙ ap (answered 0) e ∙ sym (if_accepted (write_number f at (length d)) _ _ z);
       bytes =
-          rw (k, drop-drop s at d, fill p.known part, n) (sym (append_assoc (take at d) (record_bytes (record_by f)) _))
+          rw (k, drop-drop (size f.kind) at d, fill p.known part, n)
+          (sym (append_assoc (take at d) (record_bytes (record_by f)) _))
           ∙ sym (if_accepted (write_number f at (length d)) _ _ z);
     }
 

@@ -4,7 +4,6 @@ ghost use Rattle.recording.specs.Fields.{of_kind, fields_of, first_field, record
 
 use reader::decoded;
 use recording::{Fields, Record};
-use words::fields::pick;
 
 fn of_kind(kind: u8, address: u32, value: u64) -> Fields
     ensures { result ≡ of_kind kind address value }
@@ -16,7 +15,8 @@ fn of_kind(kind: u8, address: u32, value: u64) -> Fields
     }
 }
 
-// The kind and the fields of a record; a field that its kind does not have is 0, and two budgets are the halves of one value.
+// The kind and the fields of a record; a field that its kind does not have is 0, and two budgets
+// are the halves of one value.
 pub fn fields_of(item: Record) -> Fields
     ensures { result ≡ fields_of item }
 {
@@ -49,15 +49,20 @@ pub(crate) fn high_half(value: u64) -> u32
     (value / 0x100000000) as u32
 }
 
-// What a body begins with: the value of kinds 3 to 5, the upper half of the value of kind 10, the address of the others.
+// What a body begins with: the value of kinds 3 to 5, the upper half of the value of kind 10, the
+// address of the others.
 pub(crate) fn first_field(f: Fields) -> u32
     ensures { result ≡ first_field f }
 {
-    let other = pick(f.kind == 10, high_half(f.value), f.address);
-    pick((3 <= f.kind) & (f.kind <= 5), low_half(f.value), other)
+    match f.kind {
+        3..=5 => low_half(f.value),
+        10 => high_half(f.value),
+        _ => f.address,
+    }
 }
 
 // The record of this kind with these fields, None where the kind is unknown.
+#[tactic(auto, unfolding(recording::specs::Fields::record_by))]
 pub(crate) fn record_by(f: Fields) -> Record
     ensures { result ≡ record_by f }
 {

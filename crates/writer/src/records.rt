@@ -1,40 +1,34 @@
 // The checks of a record, in the order of their numbers, and the writer.
-ghost use Rattle.std.specs.Prelude.{◌≡◌};
-ghost use Rattle.recording.specs.Writer.{has_room, before, write_number, answered, WriteRecordGives};
+ghost use Rattle.std.specs.Prelude.{◌≡◌, ◌+◌, IfOk, if◌then◌else◌};
+ghost use Rattle.machine.specs.Refusals.{number_given};
+ghost use Rattle.recording.specs.Kinds.{size};
+ghost use Rattle.recording.specs.Writer.{has_room, write_number, answered, WriteRecordGives};
 
 use crate::bytes::fill;
 use crate::named::record_by;
-use checks::check;
-use machine::Answer;
-use reader::{address_number, is_kind, size};
+use machine::{Answer, Refusal};
+use reader::{check_address, is_kind, size};
 use recording::Fields;
 
-// Whether a record of this kind ends within n bytes, and within the longest recording.
-fn has_room(place: usize, kind: u8, n: usize) -> bool
-    ensures { result ≡ has_room place kind n }
+// The place after a record of this kind, if it ends within n bytes and the longest recording.
+fn end_of(place: usize, kind: u8, n: usize) -> Option<usize>
+    ensures { result ≡ (if has_room place kind n then Some (place + size kind) else None) }
 {
-    if 16383 < place {
-        return false;
+    let end = place.checked_add(size(kind))?;
+    (end <= n.min(16383)).then_some(end)
+}
+
+// The place after a record that may be written at a place of a buffer of n bytes.
+#[tactic(auto, unfolding(recording::specs::Writer::write_number))]
+fn check(f: Fields, place: usize, n: usize) -> Result<usize, Refusal>
+    ensures number { number_given result ≡ write_number f place n }
+    ensures end { IfOk result (λ end. end ≡ place + size f.kind) }
+{
+    if !is_kind(f.kind) {
+        return Err(Refusal::UnknownKind);
     }
-    let end = place + size(kind);
-    (end <= n) & (end <= 16383)
-}
-
-// A number that is not 0, else what the later checks give.
-fn before(number: u32, later: u32) -> u32
-    ensures { result ≡ before number later }
-{
-    if number == 0 { later } else { number }
-}
-
-// The number of the first check that fails for a record at a place of a buffer of n bytes.
-fn write_number(f: Fields, place: usize, n: usize) -> u32
-    ensures { result ≡ write_number f place n }
-{
-    let known = is_kind(f.kind);
-    let address = address_number(record_by(f));
-    let room = has_room(place, f.kind, n);
-    check(known, 7, before(address, check(room, 14, 0)))
+    check_address(record_by(f))?;
+    end_of(place, f.kind, n).ok_or(Refusal::NoRoom)
 }
 
 fn answered(number: u32, value: u64) -> Answer
@@ -47,17 +41,17 @@ fn answered(number: u32, value: u64) -> Answer
     }
 }
 
-// Writes a record to a buffer from a place on; the value is the place after it, and no other byte changes. Refusals, by the first that applies: 7; 10 and
-// 5 for a register's address, 6 for one of memory; and 14 where it would end past the buffer or past 16,383 bytes.
+// Writes a record to a buffer from a place on; the value is the place after it, and no other byte
+// changes. Refusals, by the first that applies: 7; 10 and 5 for a register's address, 6 for one of
+// memory; and 14 where it would end past the buffer or past 16,383 bytes.
 pub fn write_record(f: Fields, buffer: &mut [u8], place: usize) -> Answer
     ensures { WriteRecordGives f place buffer.old result buffer.new }
 {
-    let n = buffer.len();
-    let number = write_number(f, place, n);
-    if number == 0 {
-        let end = place + size(f.kind);
-        fill(&mut buffer[place..end], f);
-        return answered(0, end as u64);
+    match check(f, place, buffer.len()) {
+        Ok(end) => {
+            fill(&mut buffer[place..end], f);
+            answered(0, end as u64)
+        }
+        Err(why) => answered(why.into(), 0),
     }
-    answered(number, 0)
 }

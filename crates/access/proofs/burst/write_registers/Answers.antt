@@ -1,22 +1,24 @@
 use mathlib.Core.Path.{refl, sym, ◌∙◌}
 use Rattle.bursts.specs.Bursts.{write_registers}
 use Rattle.bursts.proofs.Bursts.{burst_begins}
-use Rattle.machine.proofs.Refusals.{refused_outcome}
+use Rattle.machine.proofs.Refusals.{passed, declines, refused_outcome}
 use Rattle.access.proofs.burst.write_registers.Goals as goal
 
-pub returns-then-number-eq0 : goal.returns-then-number-eq0
-returns-then-number-eq0 c =
-    record {
-      outcome = c.write_all.ensures ∙ sym (burst_begins _ _ _ (sym c.burst_refusal-number.ensures ∙ c.if-number-eq0.true));
-      addresses_kept = refl;
-      values_kept = refl;
-    }
+pub returns-in-Ok : goal.returns-in-Ok
+returns-in-Ok c = record {
+  outcome =
+      c.write_all.ensures
+      ∙ sym (burst_begins _ _ _ (sym (passed c.burst_refusal.ensures c.in-Ok.is)));
+  addresses_kept = refl;
+  values_kept = refl;
+}
 
-pub returns : goal.returns
+pub returns-in-Err : goal.returns-in-Err
 unfolding write_registers
-returns c =
+returns-in-Err c =
+    let d = declines c.burst_refusal.ensures c.in-Err.is c.into.ensures in
     record {
-      outcome = refused_outcome _ c.declined.ensures c.burst_refusal-number.ensures c.if-number-eq0.false;
+      outcome = refused_outcome _ c.declined.ensures d.number d.refused;
       addresses_kept = refl;
       values_kept = refl;
     }

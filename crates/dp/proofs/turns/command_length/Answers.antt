@@ -1,7 +1,10 @@
-use borrow.Author.Rules.{rules}
+use mathlib.Core.Path.{refl}
+use native.Mathlib.Omega.{arith}
+use Rattle.dp.specs.declared.turns.TheConstants.{LENGTHS}
+use Rattle.dp.specs.Turn.{command_length}
+use Rattle.dp.proofs.Lengths.{length_table}
 use Rattle.dp.proofs.turns.command_length.Goals as goal
 
 pub returns : goal.returns
-returns c =
-    let first = c.args.first in
-    λ t. t.by_opcode first (search rules)
+unfolding command_length
+returns c = (length_table LENGTHS refl).by_opcode c.args.first (omega arith)

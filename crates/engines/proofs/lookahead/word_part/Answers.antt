@@ -8,8 +8,8 @@ use borrow.Author.Tests.{le-leb}
 use Rattle.words.proofs.Bytes.{part_word}
 use Rattle.engines.proofs.lookahead.word_part.Goals as goal
 
-pub returns-then-asked : goal.returns-then-asked
-returns-then-asked c =
+pub returns : goal.returns
+returns c =
     let a = c.args in
-    simp (c.if-asked.true, le-leb (a.at + 8) (length a.m.now) (omega arith))
+    simp (le-leb (a.at + 8) (length a.m.now) (omega (arith, c.if-m-lt8.false, c.if-m-at.false)))
     (record { block = refl; offset = refl; bytes = simp add-sub_cancel_left (part_word a.m.now a.at (omega arith)) })

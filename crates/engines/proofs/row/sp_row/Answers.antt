@@ -1,11 +1,14 @@
+use mathlib.Core.Path.{refl}
+use Rattle.machine.proofs.Refusals.{passed, declines}
 use Rattle.engines.proofs.Promised.{row_done, row_declined}
 use Rattle.engines.proofs.row.sp_row.Goals as goal
 
-pub returns-then-number-eq0 : goal.returns-then-number-eq0
-returns-then-number-eq0 c =
-    row_done c.sp_refusal-number.ensures c.if-number-eq0.true c.row-done.ensures.registers c.row-done.ensures.bytes c.with_sp.ensures
-    c.accepted.ensures
+pub returns-in-Err : goal.returns-in-Err
+returns-in-Err c =
+    let d = declines c.sp_refusal.ensures c.in-Err.is c.into.ensures in
+    row_declined d.number d.refused c.declined.ensures
 
 pub returns : goal.returns
 returns c =
-    row_declined c.sp_refusal-number.ensures c.if-number-eq0.false c.declined.ensures
+    row_done (passed c.sp_refusal.ensures c.in_default.is) refl c.row-done.ensures.registers
+    c.row-done.ensures.bytes c.with_sp.ensures c.accepted.ensures

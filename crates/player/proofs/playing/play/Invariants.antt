@@ -1,7 +1,7 @@
 use Prim.Native.Nat.{◌-◌, ◌≤◌}
 use mathlib.Core.Path.{◌≡◌}
 use lib.ListN.{length}
-use Rattle.words.specs.Memory.{memory}
+use Rattle.words.specs.Lent.{lent, SameLent}
 use Rattle.laws.specs.World.{world}
 use Rattle.recording.proofs.Splitting.{split_at}
 use Rattle.playback.specs.Findings.{no_findings}
@@ -13,16 +13,15 @@ abbrev pub invariant-loop-at : goal.invariant-loop-at
 invariant-loop-at l =
     (l.at ≤ length l.recording)
     × (l.count ≤ l.at)
-    × (l.place ≤ length l.out)
-    × Leads l.count l.findings l.at (split_at l.at l.recording) (world l.state (memory l.rdram l.dmem l.imem)) l.out l.place 0 no_findings 0 (split_at 0 l.recording)
-    (world l.initial.state (memory l.initial.rdram l.initial.dmem l.initial.imem)) l.initial.out l.from
+    × (l.lines.out.ghost_name ≡ l.initial.lines.out.ghost_name)
+    × Leads l.count l.findings l.at (split_at l.at l.recording)
+    (world l.state (lent l.m)) l.lines.out.now l.lines.at
+    0 no_findings 0 (split_at 0 l.recording)
+    (world l.initial.state (lent l.initial.m)) l.initial.lines.out.now l.initial.lines.at
     × (l.findings.compared ≤ l.count)
     × (l.findings.differed ≤ l.count)
     × Quiet l.findings
-    × (length l.rdram ≡ length l.initial.rdram)
-    × (length l.dmem ≡ length l.initial.dmem)
-    × (length l.imem ≡ length l.initial.imem)
-    × (length l.out ≡ length l.initial.out)
+    × SameLent l.initial.m l.m
 
 abbrev pub decreases-loop-at : goal.decreases-loop-at
 decreases-loop-at l =

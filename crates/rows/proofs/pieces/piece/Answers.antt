@@ -10,6 +10,6 @@ returns c =
     record {
       piece = piece;
       state = λ b some.
-          piece_state n a.s b (piece.some some) piece.in_row c.minus.ensures c.advance-last.ensures c.next-state.ensures;
+          piece_state n a.s b (piece.some some) piece.in_row c.saturating_sub.ensures c.advance.ensures c.next-state.ensures;
       bytes = λ b some. piece_bytes n a.most a.s (memory a.rdram.now a.dmem.now a.imem.now) piece b c.move_piece.ensures;
     }

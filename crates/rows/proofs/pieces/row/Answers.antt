@@ -11,7 +11,7 @@ use Rattle.rows.proofs.pieces.row.Goals as goal
 pub loop-left-init : goal.loop-left-init
 loop-left-init c =
     let a = c.args in
-    (search rules, λ _. (c.if-s.true, refl), row_start a.s _, row_start_bytes a.s _ _, refl, refl, refl)
+    (search rules, λ _. (search rules, refl), row_start a.s _, row_start_bytes a.s _ _, refl, refl, refl)
 
 pub loop-left-preserved : goal.loop-left-preserved
 loop-left-preserved c =
@@ -33,17 +33,17 @@ loop-left-preserved c =
       c.piece-done.auto.imem ∙ inv.6,
     )
 
-pub returns-then-s : goal.returns-then-s
-returns-then-s c =
-    let a = c.args in
-    let e =
-    row_end a.s (memory a.rdram.now a.dmem.now a.imem.now) c.loop-left.left (omega (arith, c.loop-left-test.false))
-    (sym (row_busy a.s c.if-s.true)) c.loop-left.invariant.2 c.loop-left.invariant.3
-    in
-    record { registers = e.0; bytes = e.1 }
-
 pub returns : goal.returns
 returns c =
     let a = c.args in
-    let e = row_none a.s (memory a.rdram.now a.dmem.now a.imem.now) c.if-s.false in
+    let e =
+    row_end a.s (memory a.rdram.now a.dmem.now a.imem.now) c.loop-left.left (omega (arith, c.loop-left-test.false))
+    (sym (row_busy a.s (search rules))) c.loop-left.invariant.2 c.loop-left.invariant.3
+    in
+    record { registers = e.0; bytes = e.1 }
+
+pub returns-then-not-s : goal.returns-then-not-s
+returns-then-not-s c =
+    let a = c.args in
+    let e = row_none a.s (memory a.rdram.now a.dmem.now a.imem.now) (search rules) in
     record { registers = e.0; bytes = e.1 }

@@ -1,0 +1,24 @@
+-- Texts written one after another by a cursor.
+use Rattle.std.proofs.Common.{◌≡◌, ℕ, min, List, [], ◌++◌, length}
+use Rattle.std.proofs.Common.{refl, ◌∙◌, arith}
+use Rattle.listing.specs.Put.{Put}
+use Rattle.listing.proofs.Putting as putting
+use Rattle.lines.specs.declared.text.Lines.{Lines}
+use Rattle.lines.specs.Wrote.{Wrote}
+
+infixl 20 ◌then◌
+-- A text after a text
+pub ◌then◌ : {a b c : Lines} {s t : List ℕ} → Wrote s a b → Wrote t b c → Wrote (s ++ t) a c
+p then q = record { same_buffer = q.same_buffer ∙ p.same_buffer; put = putting.◌then◌ p.put q.put }
+
+-- No text
+pub nothing : (a : Lines) → Wrote [] a a
+nothing a =
+    record { same_buffer = refl; put = putting.nothing a.out.now a.at a.at (omega (arith, a.inside)) }
+
+-- The first text of a cursor that began at the buffer's start
+pub first : {a b : Lines} {d t : List ℕ} → a.out.now ≡ d → a.at ≡ min 0 (length d) → Wrote t a b
+    → Put d 0 t b.out.now b.at
+first {a} {d = d} bytes place w =
+    let start : a.at ≡ 0 = omega (arith, place) in
+    rw (← bytes, ← start) w.put
