@@ -8,7 +8,7 @@ returns-in-Err c =
     let d = declines c.dp_refusal.ensures c.in-Err.is c.into.ensures in
     dp_turn_declined d.number d.refused c.declined.ensures
 
-pub returns : goal.returns
-returns c =
-    dp_turn_done (passed c.dp_refusal.ensures c.in_default.is) refl c.fetch-ran.ensures
+pub returns-in-Ok : goal.returns-in-Ok
+returns-in-Ok c =
+    dp_turn_done (passed c.dp_refusal.ensures c.in-Ok.is) refl c.fetch-ran.ensures
     c.with_ring.ensures c.accepted.ensures
