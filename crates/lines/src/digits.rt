@@ -47,7 +47,7 @@ impl Lines<'_> {
         ensures { Wrote (leading n) self.old self.new }
     {
         if n != 0 {
-            self.put(&[digit::<10>(n)]);
+            self.put_byte(digit::<10>(n));
         }
     }
 
@@ -59,6 +59,6 @@ impl Lines<'_> {
         self.put_leading(n / 1000);
         self.put_leading(n / 100);
         self.put_leading(n / 10);
-        self.put(&[digit::<10>(n)]);
+        self.put_byte(digit::<10>(n));
     }
 }

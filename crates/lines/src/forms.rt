@@ -39,6 +39,10 @@ impl Lines<'_> {
     pub fn put_found(&mut self, letter: u8, word: bool, address: u32, found: u64, expected: u64)
         ensures { Wrote (found_line letter word address found expected) self.old self.new }
     {
+        // A replay may be lent no room: then no digit is worked out.
+        if self.is_full() {
+            return;
+        }
         self.put(&[letter, b' ']);
         self.put_hex8(address as u64);
         self.put(b" ");

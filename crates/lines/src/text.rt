@@ -1,5 +1,5 @@
 // A cursor in a lent buffer, and bytes written by it.
-ghost use Rattle.std.specs.Prelude.{◌≡◌, ◌≤◌, ◌∷◌, [], min, length};
+ghost use Rattle.std.specs.Prelude.{◌≡◌, ◌≤◌, ◌∷◌, [], min, length, nat_le};
 
 // A lent buffer, and the place in it where the next byte goes. A byte that finds no room is
 // dropped.
@@ -28,6 +28,23 @@ impl<'a> Lines<'a> {
         ensures { result ≡ self.now.at }
     {
         self.at
+    }
+
+    // No byte more finds room.
+    pub(crate) fn is_full(&self) -> bool
+        ensures { result ≡ nat_le (length self.now.out.now) self.now.at }
+    {
+        self.out.len() <= self.at
+    }
+
+    // One byte, if there is room. A digit by itself goes this way: `put` calls for a copy.
+    pub(crate) fn put_byte(&mut self, b: u8)
+        ensures { Wrote (b ∷ []) self.old self.new }
+    {
+        if self.at < self.out.len() {
+            self.out[self.at] = b;
+            self.at += 1;
+        }
     }
 
     // A text, as far as there is room.

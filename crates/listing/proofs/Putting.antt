@@ -77,6 +77,20 @@ pub ◌then◌ : {d d' d'' : List ℕ} {at r r' : ℕ} {s t : List ℕ} → Put 
 pub nothing : (d : List ℕ) (at r : ℕ) → r ≡ min at (length d) → Put d at [] d r
 nothing d at r e = record { place = rw add-zero e; bytes = refl }
 
+-- No byte of a text, at the buffer's end
+pub at_end : (d : List ℕ) (at : ℕ) (t : List ℕ) → at ≡ length d → Put d at t d at
+at_end d at t e =
+    record {
+      place = omega (arith, e);
+      bytes = sym (sets_past d at t (omega (arith, e)));
+    }
+
+-- A text at the buffer's end is one at any place past it
+pub held : (d : List ℕ) (at j : ℕ) (t : List ℕ) {d' : List ℕ} {r : ℕ} → j ≡ min at (length d)
+    → Put d j t d' r → Put d at t d' r
+held d at j t e p =
+    record { place = omega (arith, e, p.place); bytes = p.bytes ∙ sets_held d at j t e }
+
 -- ---- From the start on
 
 sets_nil : (i : ℕ) (t : List ℕ) → sets [] i t ≡ []

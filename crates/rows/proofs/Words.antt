@@ -103,7 +103,7 @@ moved_room n d at s from r e h =
     ∙ ap (λ (l : List ℕ). words_moved (n - r) l (at + 8 * r) s (from + 8 * r)) (moved_fitted r d at s from fits)
     ∙ moved_rest (n - r) l (at + 8 * r) s (from + 8 * r) (λ some. omega arith)
 
-moved_none : (n : ℕ) (d : List ℕ) (at : ℕ) (s : List ℕ) (from : ℕ) → 0 ≡ fitted_words n (length d) at → words_moved n d at s from ≡ d
+pub moved_none : (n : ℕ) (d : List ℕ) (at : ℕ) (s : List ℕ) (from : ℕ) → 0 ≡ fitted_words n (length d) at → words_moved n d at s from ≡ d
 unfolding fitted_words
 moved_none n d at s from e = moved_rest n d at s from (λ some. omega arith)
 
@@ -123,7 +123,7 @@ from_have r s from h e some =
     zeros (suc k) a f = from_past (suc k) s a (f (omega arith))
 
 -- Nothing of the words is in the source
-moved_zeros : (n : ℕ) (d : List ℕ) (at : ℕ) (s : List ℕ) (from r h : ℕ) → r ≡ fitted_words n (length d) at → h ≡ fitted_words r (length s) from → 0 < r
+pub moved_zeros : (n : ℕ) (d : List ℕ) (at : ℕ) (s : List ℕ) (from r h : ℕ) → r ≡ fitted_words n (length d) at → h ≡ fitted_words r (length s) from → 0 < r
     → h ≡ 0
     → sets d at (replicate (8 * r) 0) ≡ words_moved n d at s from
 unfolding fitted_words
@@ -131,7 +131,7 @@ moved_zeros n d at s from r h er eh hr none =
     ap (sets d at) (sym (from_past r s from (omega arith))) ∙ sym (moved_room n d at s from r er hr)
 
 -- Some is
-moved_some : (n : ℕ) (d : List ℕ) (at : ℕ) (s : List ℕ) (from r h : ℕ) → r ≡ fitted_words n (length d) at → h ≡ fitted_words r (length s) from → 0 < r
+pub moved_some : (n : ℕ) (d : List ℕ) (at : ℕ) (s : List ℕ) (from r h : ℕ) → r ≡ fitted_words n (length d) at → h ≡ fitted_words r (length s) from → 0 < r
     → 0 < h
     → sets (sets d at (take (8 * h) (drop from s))) (at + 8 * h) (replicate (8 * (r - h)) 0) ≡ words_moved n d at s from
 unfolding fitted_words

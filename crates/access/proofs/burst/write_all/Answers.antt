@@ -8,6 +8,7 @@ use Rattle.std.proofs.Common.{rules, Ok, length-append}
 use Rattle.std.proofs.lemmas.Slice.Zip.{zip_turn, zip_end}
 use Rattle.machine.specs.declared.State.{State}
 use Rattle.machine.specs.Address.{register_at}
+use Rattle.machine.specs.Calls.{write_at}
 use Rattle.machine.specs.Refusals.{number, register_number, ending}
 use Rattle.machine.proofs.Refusals.{numbers_apart}
 use Rattle.bursts.specs.Bursts.{burst_refusal}
@@ -48,8 +49,10 @@ loop-a-preserved c =
     let sound = c.loop-a.invariant.sound in
     let more : length (c.loop-a.yielded ++ (c.in-Some.a, c.in-Some.v) ∷ []) ≡ n + 1 =
     length-append c.loop-a.yielded _ in
+    let leaves : c.write.new.s ≡ (write_at (Ok c.in-Ok.register) s c.in-Some.v.now).state =
+    grind arith in
     let next : c.write.new.s ≡ written r s (get_or vs n 0) =
-    c.write.ensures ∙ write_leaves (Ok c.in-Ok.register) s c.in-Some.v.now
+    leaves ∙ write_leaves (Ok c.in-Ok.register) s c.in-Some.v.now
     ∙ (λ j. written (sym c.in-Ok.is j) s (turn.3 0 j)) in
     record {
       counted = omega (arith, more, c.loop-a.invariant.counted);

@@ -1,10 +1,6 @@
-use mathlib.Core.Path.{refl}
 use native.Mathlib.Omega.{arith}
-use Rattle.dp.specs.declared.turns.TheConstants.{LENGTHS}
-use Rattle.dp.specs.Turn.{command_length}
-use Rattle.dp.proofs.Lengths.{length_table}
+use Rattle.dp.proofs.Lengths.{entry_at}
 use Rattle.dp.proofs.turns.command_length.Goals as goal
 
 pub returns : goal.returns
-unfolding command_length
-returns c = (length_table LENGTHS refl).by_opcode c.args.first (omega arith)
+returns c = entry_at c.table.ensures _ c.args.first (omega arith) (omega arith)

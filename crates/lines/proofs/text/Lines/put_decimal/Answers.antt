@@ -9,4 +9,4 @@ returns c =
     then c.put_leading-2.ensures
     then c.put_leading-3.ensures
     then c.put_leading-4.ensures
-    then rw c.digit.ensures at c.put.ensures
+    then rw c.digit.ensures at c.put_byte.ensures
